@@ -1,0 +1,27 @@
+-- `boundary::btsnoop_rows::written` meets its contract: each arm is the row of the case that the answer is.
+-- Assumes nothing.
+use mathlib.Core.Path.{_≡_, sym, ap, _∙_}
+use Rattle.btsnoop_write.specs.Says.{writeSays}
+use Rattle.btsnoop_write.specs.declared.WriteAnswer.{WriteAnswer}
+use Rattle.boundary.specs.Rows.{writtenRow}
+use borrow.Author.Needs.{needs}
+use Rattle.boundary.proofs.btsnoop_rows.written.Statement.{statement}
+use Rattle.boundary.proofs.btsnoop_rows.written.Tie as tie
+
+enum-known-answer : tie.Need-enum-known-answer
+enum-known-answer c = search needs
+
+cast-t5 : tie.Need-cast-t5
+cast-t5 c = search needs
+
+enum-known-answer-2 : tie.Need-enum-known-answer-2
+enum-known-answer-2 c = search needs
+
+returns : tie.Need-returns
+returns c = sym (ap (λ (x : WriteAnswer). writtenRow (writeSays x)) (c .before .before .answer .given .1))
+
+returns-2 : tie.Need-returns-2
+returns-2 c = sym (ap (λ (x : WriteAnswer). writtenRow (writeSays x)) (c .before .answer2 .given .1))
+
+pub written-spec : {M : Type 1} → statement M
+written-spec = tie.close (tie.spec enum-known-answer cast-t5 enum-known-answer-2 returns returns-2)

@@ -1,0 +1,65 @@
+-- Numbers that stand at a place of an input, by the octets from there on: what is read, and what follows.
+-- Assumes nothing.
+use Prim.Native.Nat.{ℕ, zero, suc, _+_, _^_, _≤_, _<_}
+use mathlib.Core.Path.{_≡_, refl, sym, ap, _∙_}
+use mathlib.Core.List.{List, _++_}
+use native.Mathlib.Omega.{arith}
+use native.Mathlib.Nat.{add-zero}
+use lib.ListN.{length, take, drop, take-append-drop}
+use lib.Seq.{take-at, drop-at, drop-drop}
+use Rattle.octets.specs.Numbers.{big, number, octetsOf, octetsAfter, octetsAt, numberAt, Octets}
+use Rattle.octets.specs.Parts.{part}
+use Rattle.octets.proofs.Laws.{read-after-write, write-after-read, range, written, octets-take, octets-drop}
+use Rattle.octets.proofs.PartLaws.{octets-part}
+
+-- the octets of a number are as many as the width says
+pub length-octetsOf : (w n : ℕ) → length (octetsOf big w n) ≡ w
+length-octetsOf w n = written big w n .long
+
+length-after : (s : List ℕ) (at after n : ℕ) → length (octetsAfter s at after n) ≡ n
+length-after s at after zero = refl
+length-after s at after (suc n) = ap suc (length-after s at (suc after) n)
+
+-- behind octets that stand at a place is what follows them
+pub past : (s : List ℕ) (p q : ℕ) (xs after : List ℕ) → p + length xs ≡ q → drop p s ≡ xs ++ after → drop q s ≡ after
+past s p q xs after at e =
+    ap (λ (k : ℕ). drop k s) (sym at)
+    ∙ sym (drop-drop (length xs) p s)
+    ∙ ap (drop (length xs)) e
+    ∙ drop-at xs after (length xs) refl
+
+module _ (s : List ℕ) (p w q : ℕ) (at : p + w ≡ q) (inside : q ≤ length s) where
+  here : octetsAt s p w ≡ take w (drop p s)
+  unfolding part
+  here = octets-part s p 0 w (omega arith) ∙ rw add-zero
+
+  rest : drop w (drop p s) ≡ drop q s
+  rest = drop-drop w p s ∙ ap (λ (k : ℕ). drop k s) at
+
+  octets-here : Octets s → Octets (octetsAt s p w)
+  octets-here o = rw here (octets-take w (drop p s) (octets-drop p s o))
+
+  -- the octets at a place stand before the others
+  pub octets-front : drop p s ≡ octetsAt s p w ++ drop q s
+  octets-front = sym (take-append-drop w (drop p s)) ∙ rw (here, rest)
+
+  -- and so do the octets of the number that they make, which fits its width
+  pub number-back : Octets s
+      → (drop p s ≡ octetsOf big w (numberAt big w s p) ++ drop q s) × (numberAt big w s p < 256 ^ w)
+  unfolding numberAt
+  number-back o =
+      let xs : List ℕ = octetsAt s p w in
+      let ho : Octets xs = octets-here o in
+      let back : octetsOf big w (number big xs) ≡ xs = rw (length-after s p 0 w) at (write-after-read big xs ho) in
+      (octets-front ∙ ap (λ (l : List ℕ). l ++ drop q s) (sym back), rw (length-after s p 0 w) at (range big xs ho))
+
+  -- a number whose octets stand at a place is read there, and what follows them is the rest
+  pub number-read : (n : ℕ) (after : List ℕ) → n < 256 ^ w → drop p s ≡ octetsOf big w n ++ after
+      → (numberAt big w s p ≡ n) × (drop q s ≡ after)
+  unfolding numberAt
+  number-read n after h e =
+      let xs : List ℕ = octetsOf big w n in
+      let long : length xs ≡ w = length-octetsOf w n in (
+        ap (number big) (here ∙ ap (take w) e ∙ take-at xs after w long) ∙ read-after-write big w n h,
+        past s p q xs after (rw long at) e,
+      )

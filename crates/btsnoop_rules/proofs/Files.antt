@@ -1,0 +1,206 @@
+-- Laws of whole files: which records lie whole, when a file is accepted, what the walk over it meets, and surveys.
+-- Assumes nothing.
+use Prim.Native.Nat.{ℕ, zero, suc, _+_, _-_, _≤_}
+use mathlib.Core.Path.{_≡_, refl, sym, ap, _∙_, subst, subst₂}
+use mathlib.Core.List.{List}
+use native.Mathlib.Omega.{arith}
+use native.Mathlib.Nat.{lt-of-not-le}
+use native.Mathlib.Decide.{decLe, ℕ-discrete}
+use lib.ListN.{length}
+use Rattle.refusals.specs.Refusals.{Answer, refused, given}
+use Rattle.tiling.specs.Tiling.{Next, Placed, Ending, ended, more, broken, items, ending, used, onward, walk, Tiles, none, one}
+use Rattle.tiling.specs.Claims.{Forward, Reached}
+use Rattle.tiling.proofs.Walks.{survey-inside, count-is-passed, surveys-add, tiles-walk, never-more as walk-never-more}
+use Rattle.btsnoop_rules.specs.declared.Numbers.{Numbers}
+use Rattle.btsnoop_rules.specs.Header.{headerLength, headerAt}
+use Rattle.btsnoop_rules.specs.Record.{recordLength, numbersAt, Found, end, whole, recordJudged, recordAt, packetIn, packetAt, Record, stepOn, recordStep, WholeAt}
+use Rattle.btsnoop_rules.specs.File.{surveyAt, fileWalk, File, fileOf, behind, fileAt}
+use Rattle.btsnoop_rules.specs.Claims.{WholeExactly, Filled, AcceptedExactly, Meets, atEnd, onRecord, WalkMeets, SurveysInTurn, SurveyCountsPassed, NeverMore}
+use Rattle.btsnoop_rules.proofs.RecordLaws.{record-below, record-past, record-end, record-short, record-judged, judged-above, judged-past, judged-whole}
+
+-- what the reader answers at a place: a refusal, the end at the input's end, or a record that lies whole
+data Seen (s : List ℕ) (p : ℕ) : Answer Found → Type 0 where
+  refusal : {n q : ℕ} → Seen s p (refused n q)
+  last : p ≡ length s → Seen s p (given end)
+  lying : headerLength ≤ p → numbersAt s p .included ≤ numbersAt s p .original
+      → p + recordLength + numbersAt s p .included ≤ length s
+      → Seen s p (given (whole (numbersAt s p) (p + recordLength) (p + recordLength + numbersAt s p .included)))
+
+judged-seen : (s : List ℕ) (p : ℕ) → headerLength ≤ p → recordLength ≤ length s - p
+    → Seen s p (recordJudged (length s - p) p (numbersAt s p))
+judged-seen s p l h = go (decLe (n .included) (n .original)) (decLe (recordLength + n .included) left)
+  where
+    n : Numbers
+    n = numbersAt s p
+
+    left : ℕ
+    left = length s - p
+
+    go : Dec (n .included ≤ n .original) → Dec (recordLength + n .included ≤ left) → Seen s p (recordJudged left p n)
+    go (no a) b = rw (judged-above left p n (lt-of-not-le a)) refusal
+    go (yes a) (no b) = rw (judged-past left p n a (lt-of-not-le b)) refusal
+    go (yes a) (yes b) = rw (judged-whole left p n a b) (lying l a (omega arith))
+
+seen : (s : List ℕ) (p : ℕ) → Seen s p (recordAt s p)
+seen s p = go (decLe headerLength p) (decLe p (length s)) (ℕ-discrete p (length s)) (decLe recordLength (length s - p))
+  where
+    go : Dec (headerLength ≤ p) → Dec (p ≤ length s) → Dec (p ≡ length s) → Dec (recordLength ≤ length s - p)
+        → Seen s p (recordAt s p)
+    go (no l) i e h = rw (record-below s p (lt-of-not-le l)) refusal
+    go (yes l) (no i) e h = rw (record-past s p l (lt-of-not-le i)) refusal
+    go (yes l) (yes i) (yes e) h = rw (record-end s p l e) (last e)
+    go (yes l) (yes i) (no e) (no h) = rw (record-short s p l (omega arith) (lt-of-not-le h)) refusal
+    go (yes l) (yes i) (no e) (yes h) = rw (record-judged s p l (omega arith) h) (judged-seen s p l h)
+
+module _ (s : List ℕ) (p : ℕ) (r : Record) (q : ℕ) where
+  -- a record that lies whole is read, and its packet with it
+  whole-read : WholeAt s p r q → recordAt s p ≡ given (whole (r .numbers) (p + recordLength) q)
+  whole-read w =
+      let n : Numbers = numbersAt s p in
+      let same : n .included ≡ r .numbers .included = ap (λ (m : Numbers). m .included) (sym (w .numbers)) in
+      let below : n .included ≤ n .original = rw (w .numbers) at (w .included) in
+      record-judged s p (w .behindHeader) (omega arith) (omega arith)
+      ∙ judged-whole (length s - p) p n below (omega arith)
+      ∙ rw (w .next, w .numbers)
+
+  whole-packet : WholeAt s p r q → packetAt s p ≡ r .packet
+  unfolding packetAt
+  whole-packet w = ap (packetIn s) (whole-read w) ∙ sym (w .packet)
+
+  -- the record step finds exactly the records that lie whole at a place
+  pub whole-exactly : WholeExactly s p r q
+  whole-exactly = record { found = found; lies = lies (seen s p) }
+    where
+      found : WholeAt s p r q → recordStep s p ≡ given (Next.whole r q)
+      found w = ap (stepOn s) (whole-read w) ∙ rw (← w .packet)
+
+      lies : {x : Answer Found} → Seen s p x → stepOn s x ≡ given (Next.whole r q) → WholeAt s p r q
+      lies refusal e = let z : _≡_ {A = ℕ} 0 1 = cc in absurd (omega arith)
+      lies (last h) e = let z : _≡_ {A = ℕ} 0 1 = cc in absurd (omega arith)
+      lies (lying l a f) e =
+          subst₂ (WholeAt s p) (cc) (cc)
+          (record { behindHeader = l; numbers = refl; included = a; packet = refl; next = refl; inside = f })
+
+-- the record step goes forward
+pub forward : (s : List ℕ) → Forward headerLength (length s) (recordStep s)
+forward s =
+    record {
+      starts = λ {p} {q} {a = r} e. lies p r q e .behindHeader;
+      onward = λ {p} {q} {a = r} e. let w = lies p r q e in omega arith;
+      inside = λ {p} {q} {a = r} e. lies p r q e .inside;
+      at-end = λ l. ap (stepOn s) (record-end s (length s) l refl);
+      is-end = λ {p} e. is-end p (seen s p) e;
+    }
+  where
+    lies : (p : ℕ) (r : Record) (q : ℕ) → recordStep s p ≡ given (Next.whole r q) → WholeAt s p r q
+    lies p r q e = whole-exactly s p r q .lies e
+
+    is-end : (p : ℕ) {x : Answer Found} → Seen s p x → stepOn s x ≡ given Next.end → p ≡ length s
+    is-end p refusal e = let z : _≡_ {A = ℕ} 0 1 = cc in absurd (omega arith)
+    is-end p (last h) e = h
+    is-end p (lying l a f) e = let z : _≡_ {A = ℕ} 0 1 = cc in absurd (omega arith)
+
+-- items that lie end to end do so for any other meaning of lying whole that follows
+tiles-map : {A : Type 0} {L M : ℕ → A → ℕ → Type 0} → ((p : ℕ) (a : A) (q : ℕ) → L p a q → M p a q)
+    → {p q : ℕ} {xs : List (Placed A)} → Tiles L p xs q → Tiles M p xs q
+tiles-map f none = none
+tiles-map f (one {p} {q} {r} {a} h t) = one (f p a q h) (tiles-map f t)
+
+-- a walk that ends does so at the input's end
+module _ {A : Type 0} (step : ℕ → Answer (Next A)) (q : ℕ) where
+  walk-ended : (n p : ℕ) → ending (walk step n p) ≡ ended q → step q ≡ given Next.end
+  walk-ended zero p = go (step p) refl
+    where
+      go : (x : Answer (Next A)) → step p ≡ x → ending (used p x) ≡ ended q → step q ≡ given Next.end
+      go (refused k r) e h = let z : _≡_ {A = ℕ} 0 1 = cc in absurd (omega arith)
+      go (given Next.end) e h = cc
+      go (given (Next.whole a r)) e h = let z : _≡_ {A = ℕ} 0 1 = cc in absurd (omega arith)
+  walk-ended (suc n) p = go (walk-ended n) (step p) refl
+    where
+      go : ((r : ℕ) → ending (walk step n r) ≡ ended q → step q ≡ given Next.end)
+          → (x : Answer (Next A)) → step p ≡ x → ending (onward p (walk step n) x) ≡ ended q → step q ≡ given Next.end
+      go rest (refused k r) e h = let z : _≡_ {A = ℕ} 0 1 = cc in absurd (omega arith)
+      go rest (given Next.end) e h = cc
+      go rest (given (Next.whole a r)) e h = rest r h
+
+module _ (s : List ℕ) where
+  -- no record is empty
+  pub tiles-long : {p q : ℕ} {xs : List (Placed Record)} → Tiles (WholeAt s) p xs q → p + length xs ≤ q
+  tiles-long none = omega arith
+  tiles-long (one w t) = let l = tiles-long t in omega arith
+
+  -- the walk over a file passes the records that fill it, and then ends
+  filled-walk : {code : ℕ} {xs : List (Placed Record)} → Filled s code xs
+      → (items (fileWalk s) ≡ xs) × (ending (fileWalk s) ≡ ended (length s))
+  unfolding fileWalk
+  filled-walk {code} {xs} f =
+      let l = tiles-long (f .records) in
+      tiles-walk headerLength (length s) (recordStep s) (forward s) headerLength xs (length s) (omega arith)
+      (tiles-map (λ p r q. whole-exactly s p r q .found) (f .records)) (omega arith)
+
+  -- and a walk that ends passed records that fill the input
+  walk-filled : (q : ℕ) → ending (fileWalk s) ≡ ended q → Tiles (WholeAt s) headerLength (items (fileWalk s)) (length s)
+  unfolding fileWalk
+  walk-filled q e =
+      let r : Reached (recordStep s) headerLength (fileWalk s) =
+      count-is-passed headerLength (length s) (recordStep s) (length s) headerLength in
+      let here : q ≡ r .place = rw e at (r .ends) in
+      let last : q ≡ length s = forward s .is-end (walk-ended (recordStep s) q (length s) headerLength e) in
+      subst (Tiles (WholeAt s) headerLength (items (fileWalk s))) (sym here ∙ last)
+      (tiles-map (λ p a q. whole-exactly s p a q .lies) (r .tiles))
+
+  -- a file is accepted exactly when its header is valid and whole records fill the rest
+  pub accepted-exactly : AcceptedExactly s
+  unfolding fileAt
+  accepted-exactly = record { filled = λ file. under file (headerAt s) refl; accepted = accepted }
+    where
+      Fills : File → Type 0
+      Fills file = (xs : List (Placed Record)) × Filled s (file .datalink) xs × (length xs ≡ file .records)
+
+      over : (code : ℕ) (file : File) → headerAt s ≡ given code → (e : Ending) → ending (fileWalk s) ≡ e
+          → fileOf code (length (items (fileWalk s))) e ≡ given file → Fills file
+      over code file h (ended q) e g =
+          subst Fills (cc) (items (fileWalk s), record { header = h; records = walk-filled q e }, refl)
+      over code file h (more q) e g = let z : _≡_ {A = ℕ} 0 1 = cc in absurd (omega arith)
+      over code file h (broken n q) e g = let z : _≡_ {A = ℕ} 0 1 = cc in absurd (omega arith)
+
+      under : (file : File) (x : Answer ℕ) → headerAt s ≡ x → behind s x ≡ given file → Fills file
+      under file (refused n q) h g = let z : _≡_ {A = ℕ} 0 1 = cc in absurd (omega arith)
+      under file (given code) h g = over code file h (ending (fileWalk s)) refl g
+
+      accepted : (code : ℕ) (xs : List (Placed Record)) → Filled s code xs
+          → fileAt s ≡ given (record { datalink = code; records = length xs })
+      accepted code xs f = let w = filled-walk f in rw (f .header, w .0, w .1)
+
+-- the walk over an accepted file meets exactly its records
+pub walk-meets : (s : List ℕ) (code : ℕ) (xs : List (Placed Record)) → Filled s code xs → WalkMeets s xs
+walk-meets s code xs f =
+    let w = filled-walk s f in
+    record { meets = along (f .records) (omega arith) refl; passed = w .0; ends = w .1 }
+  where
+    along : {p q : ℕ} {xs : List (Placed Record)} → Tiles (WholeAt s) p xs q → headerLength ≤ p → q ≡ length s
+        → Meets s p xs
+    along (none {p}) l e = atEnd (record-end s p l e)
+    along (one {p} {q} {r} {a} w t) l e =
+        onRecord (whole-read s p a q w) (whole-packet s p a q w) (along t (omega arith) e)
+
+-- surveys one after another end as one survey with the summed number does
+pub surveys-in-turn : SurveysInTurn
+unfolding surveyAt
+surveys-in-turn s n ms p = surveys-add headerLength (length s) (recordStep s) (forward s) n ms p
+
+-- a survey's count is the number of records between its start and the place that it reached
+pub survey-counts-passed : SurveyCountsPassed
+unfolding surveyAt
+survey-counts-passed s p n l h =
+    record {
+      answer = survey-inside headerLength (length s) (recordStep s) n p l h;
+      reached = count-is-passed headerLength (length s) (recordStep s) n p;
+    }
+
+-- a survey allowed as many records as the input has octets never says "more"
+pub never-more : NeverMore
+unfolding surveyAt
+never-more s p l h =
+    rw (survey-inside headerLength (length s) (recordStep s) (length s) p l h)
+    (walk-never-more headerLength (length s) (recordStep s) (forward s) (length s) p l h (omega arith))

@@ -1,0 +1,76 @@
+-- Case laws of the record reader: one for each outcome.
+-- Assumes nothing.
+use Prim.Native.Nat.{ℕ, zero, suc, _+_, _-_, _≤_, _<_}
+use mathlib.Core.Path.{_≡_, refl, ap}
+use mathlib.Core.List.{List}
+use lib.ListN.{length, List·getD-eq-default}
+use borrow.Author.Tests.{le-leb, lt-leb, eq-eqb, ne-eqb}
+use native.Mathlib.Omega.{arith}
+use Rattle.refusals.specs.Refusals.{Answer, refused, given, shortRecord, includedLength, pastInput, recordPlace}
+use Rattle.octets.specs.Numbers.{big, number, octetsAfter, numberAt}
+use Rattle.btsnoop_rules.specs.declared.Numbers.{Numbers}
+use Rattle.btsnoop_rules.specs.Header.{headerLength}
+use Rattle.btsnoop_rules.specs.Record.{recordLength, numbersAt, Found, end, whole, recordJudged, recordAt}
+
+module _ (s : List ℕ) (p : ℕ) where
+  pub record-below : p < headerLength → recordAt s p ≡ refused recordPlace p
+  unfolding recordAt
+  record-below h = rw (lt-leb headerLength p h)
+
+  pub record-past : headerLength ≤ p → length s < p → recordAt s p ≡ refused recordPlace p
+  unfolding recordAt
+  record-past l h = rw (le-leb headerLength p l, lt-leb p (length s) h)
+
+  pub record-end : headerLength ≤ p → p ≡ length s → recordAt s p ≡ given end
+  unfolding recordAt
+  record-end l e =
+      let h : p ≤ length s = omega arith in
+      rw (le-leb headerLength p l, le-leb p (length s) h, eq-eqb p (length s) e)
+
+  pub record-short : headerLength ≤ p → p < length s → length s - p < recordLength → recordAt s p ≡ refused shortRecord p
+  unfolding recordAt
+  record-short l h few =
+      let i : p ≤ length s = omega arith in
+      let other : p ≡ length s → ⊥ = λ e. omega arith in
+      rw (le-leb headerLength p l, le-leb p (length s) i, ne-eqb p (length s) other, lt-leb recordLength (length s - p) few)
+
+  pub record-judged : headerLength ≤ p → p < length s → recordLength ≤ length s - p
+      → recordAt s p ≡ recordJudged (length s - p) p (numbersAt s p)
+  unfolding recordAt
+  record-judged l h enough =
+      let i : p ≤ length s = omega arith in
+      let other : p ≡ length s → ⊥ = λ e. omega arith in
+      rw (le-leb headerLength p l, le-leb p (length s) i, ne-eqb p (length s) other, le-leb recordLength (length s - p) enough)
+
+module _ (left p : ℕ) (n : Numbers) where
+  pub judged-above : n .original < n .included → recordJudged left p n ≡ refused includedLength (p + 4)
+  unfolding recordJudged
+  judged-above h = rw (lt-leb (n .included) (n .original) h)
+
+  pub judged-past : n .included ≤ n .original → left < recordLength + n .included → recordJudged left p n ≡ refused pastInput p
+  unfolding recordJudged
+  judged-past h few = rw (le-leb (n .included) (n .original) h, lt-leb (recordLength + n .included) left few)
+
+  pub judged-whole : n .included ≤ n .original → recordLength + n .included ≤ left
+      → recordJudged left p n ≡ given (whole n (p + recordLength) (p + recordLength + n .included))
+  unfolding recordJudged
+  judged-whole h enough = rw (le-leb (n .included) (n .original) h, le-leb (recordLength + n .included) left enough)
+
+-- past the input's end every octet is 0, wherever it is
+octets-past : (s : List ℕ) (p q after n : ℕ) → length s ≤ p → length s ≤ q → octetsAfter s p after n ≡ octetsAfter s q after n
+octets-past s p q after zero hp hq = refl
+octets-past s p q after (suc n) hp hq =
+    let ip : length s ≤ p + after = omega arith in
+    let iq : length s ≤ q + after = omega arith in
+    rw (List·getD-eq-default s 0 ip, List·getD-eq-default s 0 iq, octets-past s p q (suc after) n hp hq)
+
+number-past : (w : ℕ) (s : List ℕ) (p q : ℕ) → length s ≤ p → length s ≤ q → numberAt big w s p ≡ numberAt big w s q
+unfolding numberAt
+number-past w s p q hp hq = ap (number big) (octets-past s p q 0 w hp hq)
+
+pub numbers-past : (s : List ℕ) (p : ℕ) → length s ≤ p → numbersAt s p ≡ numbersAt s (length s)
+unfolding numbersAt
+numbers-past s p h =
+    let same : (w k : ℕ) → numberAt big w s (p + k) ≡ numberAt big w s (length s + k) =
+    λ w k. number-past w s (p + k) (length s + k) (omega arith) (omega arith) in
+    rw (number-past 4 s p (length s) h (omega arith), same 4 4, same 4 8, same 4 12, same 8 16)

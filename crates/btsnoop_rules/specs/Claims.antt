@@ -1,0 +1,142 @@
+-- What follows from the rules for whole files: acceptance, the walk, both round trips, and surveys in turn.
+-- Proofs: proofs/Files.antt and proofs/RoundTrips.antt.
+use Prim.Native.Nat.{ℕ, _+_, _-_, _^_, _≤_, _<_}
+use mathlib.Core.Path.{_≡_}
+use mathlib.Core.Bool.{true}
+use mathlib.Core.List.{List, [], _∷_, map}
+use lib.ListN.{length, take, drop}
+use lib.Signed.{mag}
+use Rattle.refusals.specs.Refusals.{Answer, refused, given}
+use Rattle.octets.specs.Numbers.{Octets}
+use Rattle.octets.specs.Parts.{part}
+use Rattle.tiling.specs.Tiling.{Next, Placed, Ending, ended, Walk, walk, items, ending, Survey, Tiles}
+use Rattle.tiling.specs.Claims.{Reached, Final, inTurn, sum}
+use Rattle.btsnoop_rules.specs.Header.{headerLength, served, headerAt}
+use Rattle.btsnoop_rules.specs.Record.{recordLength, Found, end, whole, recordAt, packetAt, Record, recordStep, WholeAt}
+use Rattle.btsnoop_rules.specs.File.{surveyAt, fileWalk, File, fileAt}
+use Rattle.btsnoop_rules.specs.Writing.{headerWriting, headerWritten, recordWriting, recordWritten}
+
+-- the record step finds exactly the records that lie whole at a place
+pub record WholeExactly (s : List ℕ) (p : ℕ) (r : Record) (q : ℕ) : Type 0 where
+  pub found : WholeAt s p r q → recordStep s p ≡ given (Next.whole r q)
+  pub lies : recordStep s p ≡ given (Next.whole r q) → WholeAt s p r q
+
+-- a valid header with a code, and whole records that fill the rest
+pub record Filled (s : List ℕ) (code : ℕ) (xs : List (Placed Record)) : Type 0 where
+  pub header : headerAt s ≡ given code
+  pub records : Tiles (WholeAt s) headerLength xs (length s)
+
+-- a file is accepted exactly when its header is valid and whole records fill the rest
+pub record AcceptedExactly (s : List ℕ) : Type 0 where
+  pub filled : (file : File) → fileAt s ≡ given file
+      → (xs : List (Placed Record)) × Filled s (file .datalink) xs × (length xs ≡ file .records)
+  pub accepted : (code : ℕ) (xs : List (Placed Record)) → Filled s code xs
+      → fileAt s ≡ given (record { datalink = code; records = length xs })
+
+-- walking the record reader from a place finds each of these records, at its place and with its packet's octets, and
+-- then the end
+pub data Meets (s : List ℕ) : ℕ → List (Placed Record) → Type 0 where
+  atEnd : {p : ℕ} → recordAt s p ≡ given end → Meets s p []
+  onRecord : {p packet q : ℕ} {r : Record} {xs : List (Placed Record)} → recordAt s p ≡ given (whole (r .numbers) packet q)
+      → packetAt s p ≡ r .packet → Meets s q xs → Meets s p (record { place = p; value = r } ∷ xs)
+
+-- the walk over an accepted file meets exactly its records
+pub record WalkMeets (s : List ℕ) (xs : List (Placed Record)) : Type 0 where
+  pub meets : Meets s headerLength xs
+  pub passed : items (fileWalk s) ≡ xs
+  pub ends : ending (fileWalk s) ≡ ended (length s)
+
+-- a record that can be written: its numbers fit their fields, and no packet is above its original length
+pub record Representable (r : Record) : Type 0 where
+  pub included : r .numbers .included ≡ length (r .packet)
+  pub notAbove : length (r .packet) ≤ r .numbers .original
+  pub original : r .numbers .original < 2 ^ 32
+  pub flags : r .numbers .flags < 2 ^ 32
+  pub drops : r .numbers .drops < 2 ^ 32
+  pub time : mag (r .numbers .time) < 2 ^ 63
+  pub octets : Octets (r .packet)
+
+abbrev pub AllRepresentable : List Record → Type 0
+AllRepresentable [] = Unit {0}
+AllRepresentable (r ∷ rs) = Representable r × AllRepresentable rs
+
+-- an output, and what the last writer answered
+pub record Output : Type 0 where
+  pub octets : List ℕ
+  pub answer : Answer ℕ
+
+-- one record more, at the place that the last writer answered; after a refusal nothing more is written
+abbrev pub writeNext : List ℕ → Record → Answer ℕ → Output
+writeNext out r (refused n q) = record { octets = out; answer = refused n q }
+writeNext out r (given at) =
+    record {
+      octets =
+          recordWritten out at (r .numbers .original) (r .numbers .flags) (r .numbers .drops) (r .numbers .time) (r .packet);
+      answer = recordWriting (length out) at (r .numbers .original) (r .packet);
+    }
+
+abbrev pub writeRecords : Output → List Record → Output
+writeRecords o [] = o
+writeRecords o (r ∷ rs) = writeRecords (writeNext (o .octets) r (o .answer)) rs
+
+-- a file written at a place of an output: the header and then record after record, by the writers' own promises
+abbrev pub writeFile : List ℕ → (at code : ℕ) → List Record → Output
+writeFile out at code rs =
+    writeRecords (record { octets = headerWritten out at code; answer = headerWriting (length out) at code }) rs
+
+-- how long the records are, and each at its place
+abbrev pub recordsLength : List Record → ℕ
+recordsLength [] = 0
+recordsLength (r ∷ rs) = recordLength + length (r .packet) + recordsLength rs
+
+abbrev pub placedFrom : ℕ → List Record → List (Placed Record)
+placedFrom p [] = []
+placedFrom p (r ∷ rs) = record { place = p; value = r } ∷ placedFrom (p + recordLength + length (r .packet)) rs
+
+abbrev pub valuesOf : List (Placed Record) → List Record
+valuesOf [] = []
+valuesOf (x ∷ xs) = x .value ∷ valuesOf xs
+
+-- an output with a file of so many octets written at a place, every other octet as it was
+pub record WrittenAt (out : List ℕ) (at size : ℕ) (o : Output) : Type 0 where
+  pub answer : o .answer ≡ given (at + size)
+  pub long : length (o .octets) ≡ length out
+  pub before : take at (o .octets) ≡ take at out
+  pub after : drop (at + size) (o .octets) ≡ drop (at + size) out
+
+-- given room, writing a header and any representable records, and then reading, returns them
+pub record WriteRead (out : List ℕ) (at code : ℕ) (rs : List Record) : Type 0 where
+  pub written : WrittenAt out at (headerLength + recordsLength rs) (writeFile out at code rs)
+  pub reads : Filled (part (writeFile out at code rs .octets) at (headerLength + recordsLength rs)) code (placedFrom headerLength rs)
+
+abbrev pub WriteThenRead : Type 0
+WriteThenRead = (out : List ℕ) (at code : ℕ) (rs : List Record) → served code ≡ true → AllRepresentable rs
+    → at + (headerLength + recordsLength rs) ≤ length out → WriteRead out at code rs
+
+-- rewriting an accepted file gives its own octets, and all its records can be written
+pub record Rewritten (s out : List ℕ) (at code : ℕ) (xs : List (Placed Record)) : Type 0 where
+  pub representable : AllRepresentable (valuesOf xs)
+  pub written : WrittenAt out at (length s) (writeFile out at code (valuesOf xs))
+  pub same : part (writeFile out at code (valuesOf xs) .octets) at (length s) ≡ s
+
+abbrev pub RewriteAccepted : Type 0
+RewriteAccepted = (s out : List ℕ) (at code : ℕ) (xs : List (Placed Record)) → Octets s → Filled s code xs
+    → at + length s ≤ length out → Rewritten s out at code xs
+
+-- surveys one after another, each from the place the last reached and none refused before the last, end as one survey
+-- with the summed number does; a refusal ends them
+abbrev pub SurveysInTurn : Type 0
+SurveysInTurn = (s : List ℕ) (n : ℕ) (ms : List ℕ) (p : ℕ)
+    → inTurn headerLength (length s) (recordStep s) n ms p ≡ surveyAt s p (sum n ms)
+
+-- a survey's count is the number of records between its start and the place that it reached
+pub record SurveyCounts (s : List ℕ) (p n : ℕ) : Type 0 where
+  pub answer : surveyAt s p n ≡ record { count = length (items (walk (recordStep s) n p)); ending = ending (walk (recordStep s) n p) }
+  pub reached : Reached (recordStep s) p (walk (recordStep s) n p)
+
+abbrev pub SurveyCountsPassed : Type 0
+SurveyCountsPassed = (s : List ℕ) (p n : ℕ) → headerLength ≤ p → p ≤ length s → SurveyCounts s p n
+
+-- a survey allowed as many records as the input has octets never says "more"; so the walk behind a valid header doesn't
+abbrev pub NeverMore : Type 0
+NeverMore = (s : List ℕ) (p : ℕ) → headerLength ≤ p → p ≤ length s → Final (surveyAt s p (length s) .ending)

@@ -1,0 +1,6 @@
+pub mod Header
+pub mod Record
+pub mod File
+pub mod Writing
+pub mod Drops
+pub mod Claims

@@ -1,0 +1,98 @@
+// The survey of a BTSnoop file by instalments, and the check of a whole file.
+ghost use mathlib.Core.Path.{_≡_};
+ghost use Rattle.btsnoop_rules.specs.File.{surveyAt, fileOf, fileAt};
+ghost use Rattle.btsnoop_survey.specs.Says.{surveySays, fileSays};
+use btsnoop::HEADER_LENGTH;
+use btsnoop::HeaderAnswer;
+use btsnoop::RecordAnswer;
+use refusals::Refusal;
+
+// What a survey answers: how many records it passed, and the place reached or the refusal.
+pub enum SurveyAnswer {
+    End { count: usize, reached: usize },
+    More { count: usize, reached: usize },
+    Refused { count: usize, refusal: Refusal },
+}
+
+// What the check of a file answers: the refusal, or the datalink code and the number of records.
+pub enum FileAnswer {
+    Refused(Refusal),
+    Accepted { datalink: u32, records: usize },
+}
+
+// Surveys the records from a place on, passing at most the given number of them.
+pub fn survey(s: &[u8], place: usize, number: usize) -> SurveyAnswer
+    ensures { λ r. ⌜ surveySays r ≡ surveyAt (now (s .entry)) place number ⌝ }
+{
+    if place < HEADER_LENGTH {
+        return SurveyAnswer::Refused {
+            count: 0,
+            refusal: Refusal {
+                number: refusals::RECORD_PLACE,
+                place,
+            },
+        };
+    }
+    if s.len() < place {
+        return SurveyAnswer::Refused {
+            count: 0,
+            refusal: Refusal {
+                number: refusals::RECORD_PLACE,
+                place,
+            },
+        };
+    }
+    let mut reached = place;
+    let mut count = 0;
+    while count < number {
+        match btsnoop::record::read(s, reached) {
+            RecordAnswer::Refused(refusal) => {
+                return SurveyAnswer::Refused { count, refusal };
+            }
+            RecordAnswer::End => {
+                return SurveyAnswer::End { count, reached };
+            }
+            RecordAnswer::Whole {
+                numbers: _,
+                packet: _,
+                next,
+            } => {
+                reached = next;
+                count += 1;
+            }
+        }
+    }
+    if reached == s.len() {
+        SurveyAnswer::End { count, reached }
+    } else {
+        SurveyAnswer::More { count, reached }
+    }
+}
+
+// Checks a whole file: accepted exactly when its header is valid and whole records fill the rest.
+pub fn check(s: &[u8]) -> FileAnswer
+    ensures { λ r. ⌜ fileSays r ≡ fileAt (now (s .entry)) ⌝ }
+{
+    match btsnoop::header::read(s) {
+        HeaderAnswer::Refused(refusal) => FileAnswer::Refused(refusal),
+        HeaderAnswer::Accepted(datalink) => checked(datalink, survey(s, HEADER_LENGTH, s.len())),
+    }
+}
+
+// The answer of a check whose header has a datalink code and whose records were surveyed to the end. (A survey of as
+// many records as the input has octets never says "more".)
+fn checked(datalink: u32, survey: SurveyAnswer) -> FileAnswer
+    ensures { λ r. ⌜ fileSays r ≡ fileOf datalink (surveySays survey .count) (surveySays survey .ending) ⌝ }
+{
+    match survey {
+        SurveyAnswer::End { count, reached: _ } => FileAnswer::Accepted {
+            datalink,
+            records: count,
+        },
+        SurveyAnswer::More { count: _, reached } => FileAnswer::Refused(Refusal {
+            number: refusals::RECORD_PLACE,
+            place: reached,
+        }),
+        SurveyAnswer::Refused { count: _, refusal } => FileAnswer::Refused(refusal),
+    }
+}

@@ -1,0 +1,34 @@
+-- `octets::join32` meets its contract: arithmetic, with the number of the octets unfolded.
+-- Assumes nothing.
+use native.Mathlib.Omega.{arith}
+use Rattle.octets.specs.Numbers.{number}
+use borrow.Author.Needs.{needs}
+use Rattle.octets.proofs.join32.Statement.{statement}
+use Rattle.octets.proofs.join32.Tie as tie
+
+mul-result : tie.Need-mul-result
+mul-result c = search needs
+
+add-result : tie.Need-add-result
+add-result c = search needs
+
+mul-result-2 : tie.Need-mul-result-2
+mul-result-2 c = search needs
+
+add-result-2 : tie.Need-add-result-2
+add-result-2 c = search needs
+
+mul-result-3 : tie.Need-mul-result-3
+mul-result-3 c = search needs
+
+add-result-3 : tie.Need-add-result-3
+add-result-3 c = search needs
+
+returns : tie.Need-returns
+unfolding number
+returns c = omega arith
+
+pub join32-spec : {M : Type 1} → statement M
+join32-spec =
+    tie.close
+    (tie.spec mul-result add-result mul-result-2 add-result-2 mul-result-3 add-result-3 returns)

@@ -1,0 +1,26 @@
+-- `octets_put::octets_be32` meets its contract: the octets computed are those of the definition.
+-- Assumes nothing.
+use mathlib.Core.Path.{refl}
+use Rattle.octets.specs.Numbers.{octetsOf}
+use borrow.Author.Needs.{needs}
+use Rattle.octets_put.proofs.octets_be32.Statement.{statement}
+use Rattle.octets_put.proofs.octets_be32.Tie as tie
+
+cast-t6 : tie.Need-cast-t6
+cast-t6 c = search needs
+
+cast-t10 : tie.Need-cast-t10
+cast-t10 c = search needs
+
+cast-t13 : tie.Need-cast-t13
+cast-t13 c = search needs
+
+cast-t15 : tie.Need-cast-t15
+cast-t15 c = search needs
+
+returns : tie.Need-returns
+unfolding octetsOf
+returns c = refl
+
+pub octets-be32-spec : {M : Type 1} → statement M
+octets-be32-spec = tie.close (tie.spec cast-t6 cast-t10 cast-t13 cast-t15 returns)

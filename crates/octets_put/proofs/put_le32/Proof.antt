@@ -1,0 +1,24 @@
+-- `octets_put::put_le32` meets its contract: the number's octets, and then `put`.
+-- Assumes nothing.
+use borrow.Author.Needs.{needs}
+use Rattle.octets_put.proofs.put_le32.Statement.{statement}
+use Rattle.octets_put.proofs.put_le32.Tie as tie
+
+octets-le32-requires : tie.Need-octets-le32-requires
+octets-le32-requires c κs = search needs
+
+slice-aggregate-put : tie.Need-slice-aggregate-put
+slice-aggregate-put c = search needs
+
+put-requires : tie.Need-put-requires
+put-requires c κs = search needs
+
+same-length : tie.Need-same-length
+same-length c = search needs
+
+returns : tie.Need-returns
+returns c = cc
+
+pub put-le32-spec : {M : Type 1} → statement M
+put-le32-spec =
+    tie.close (tie.spec octets-le32-requires slice-aggregate-put put-requires same-length returns)

@@ -1,0 +1,173 @@
+-- Laws of walks and surveys over any step that goes forward.
+-- Assumes nothing.
+use Prim.Native.Nat.{ℕ, zero, suc, _+_, _-_, _≤_, _<_}
+use mathlib.Core.Path.{_≡_, refl, sym, ap, _∙_, subst}
+use mathlib.Core.Bool.{Bool, true, false, cond, _&&_}
+use mathlib.Core.List.{List, [], _∷_}
+use native.Mathlib.Omega.{arith}
+use native.Mathlib.Nat.{zero-add, suc-add, lt-of-not-le}
+use lib.ListN.{length}
+use lib.Dec.{leb}
+use borrow.Author.Tests.{le-leb, lt-leb}
+use native.Mathlib.Decide.{decLe}
+use Rattle.refusals.specs.Refusals.{Answer, refused, given, recordPlace}
+use Rattle.tiling.specs.Tiling.{Next, end, whole, Placed, Ending, ended, more, broken, Walk, stop, pass, items, ending, used, onward, walk, Survey, surveyOf, survey, Tiles, none, one}
+use Rattle.tiling.specs.Claims.{Forward, Found, EndsAt, Reached, Final, then, inTurn, sum, CountIsPassed, NeverMore, SurveysAdd, TilesWalk}
+
+-- an ending names a place that was reached
+abbrev Names : Ending → ℕ → Type 0
+Names (ended r) q = r ≡ q
+Names (more r) q = r ≡ q
+Names (broken n r) q = ⊥
+
+-- one item more
+abbrev bump : Survey → Survey
+bump s = record { count = suc (s .count); ending = s .ending }
+
+then-bump : (c : ℕ) (next : ℕ → Survey) (e : Ending) → bump (then c next e) ≡ then (suc c) next e
+then-bump c next (ended q) = ap (λ (k : ℕ). record { count = k; ending = next q .ending }) (sym (suc-add c (next q .count)))
+then-bump c next (more q) = ap (λ (k : ℕ). record { count = k; ending = next q .ending }) (sym (suc-add c (next q .count)))
+then-bump c next (broken n q) = refl
+
+then-zero : (next : ℕ → Survey) (q : ℕ) → record { count = 0 + next q .count; ending = next q .ending } ≡ next q
+then-zero next q = ap (λ (k : ℕ). record { count = k; ending = next q .ending }) (zero-add (next q .count))
+
+then-cong : (c : ℕ) (f g : ℕ → Survey) (e : Ending) → ((q : ℕ) → Names e q → f q ≡ g q) → then c f e ≡ then c g e
+then-cong c f g (ended q) h = ap (λ (s : Survey). record { count = c + s .count; ending = s .ending }) (h q refl)
+then-cong c f g (more q) h = ap (λ (s : Survey). record { count = c + s .count; ending = s .ending }) (h q refl)
+then-cong c f g (broken n q) h = refl
+
+module _ {A : Type 0} (low high : ℕ) (step : ℕ → Answer (Next A)) where
+  -- from a place where items lie, a survey is that of the walk; from another it is refused
+  pub survey-inside : (n p : ℕ) → low ≤ p → p ≤ high → survey low high step n p ≡ surveyOf (walk step n p)
+  unfolding survey
+  survey-inside n p l h = rw (le-leb low p l, le-leb p high h)
+
+  pub survey-below : (n p : ℕ) → p < low → survey low high step n p ≡ record { count = 0; ending = broken recordPlace p }
+  unfolding survey
+  survey-below n p l = rw (lt-leb low p l)
+
+  pub survey-past : (n p : ℕ) → low ≤ p → high < p → survey low high step n p ≡ record { count = 0; ending = broken recordPlace p }
+  unfolding survey
+  survey-past n p l h = rw (le-leb low p l, lt-leb p high h)
+
+  -- the count is the number of items between the start and the place reached
+  pub count-is-passed : CountIsPassed low high step
+  count-is-passed zero p = go (step p) refl
+    where
+      go : (x : Answer (Next A)) → step p ≡ x → Reached step p (used p x)
+      go (refused n q) e = record { place = p; tiles = none; ends = refl }
+      go (given end) e = record { place = p; tiles = none; ends = refl }
+      go (given (whole a q)) e = record { place = p; tiles = none; ends = refl }
+  count-is-passed (suc n) p = go (count-is-passed n) (step p) refl
+    where
+      go : ((q : ℕ) → Reached step q (walk step n q)) → (x : Answer (Next A)) → step p ≡ x → Reached step p (onward p (walk step n) x)
+      go rest (refused k q) e = record { place = p; tiles = none; ends = e }
+      go rest (given end) e = record { place = p; tiles = none; ends = refl }
+      go rest (given (whole a q)) e = record { place = rest q .place; tiles = one e (rest q .tiles); ends = rest q .ends }
+
+  -- at the input's end a walk ends at once, whatever its number
+  walk-at-end : (n p : ℕ) → step p ≡ given end → walk step n p ≡ stop (ended p)
+  walk-at-end zero p e = ap (used p) e
+  walk-at-end (suc n) p e = ap (onward p (walk step n)) e
+
+  -- a walk of two numbers added is the walk of the first, and then of the second from the place reached
+  walk-add : (m n p : ℕ) → surveyOf (walk step (m + n) p)
+      ≡ then (length (items (walk step m p))) (λ (q : ℕ). surveyOf (walk step n q)) (ending (walk step m p))
+  walk-add zero n p = ap (λ (k : ℕ). surveyOf (walk step k p)) (zero-add n) ∙ go (step p)
+    where
+      next : ℕ → Survey
+      next q = surveyOf (walk step n q)
+
+      go : (x : Answer (Next A)) → next p ≡ then (length (items (used p x))) next (ending (used p x))
+      go (refused k q) = sym (then-zero next p)
+      go (given end) = sym (then-zero next p)
+      go (given (whole a q)) = sym (then-zero next p)
+  walk-add (suc m) n p = ap (λ (k : ℕ). surveyOf (walk step k p)) (suc-add m n) ∙ go (walk-add m n) (step p) refl
+    where
+      next : ℕ → Survey
+      next q = surveyOf (walk step n q)
+
+      go : ((q : ℕ) → surveyOf (walk step (m + n) q) ≡ then (length (items (walk step m q))) next (ending (walk step m q)))
+          → (x : Answer (Next A)) → step p ≡ x
+          → surveyOf (onward p (walk step (m + n)) x) ≡ then (length (items (onward p (walk step m) x))) next (ending (onward p (walk step m) x))
+      go rest (refused k q) e = refl
+      go rest (given end) e = sym (then-zero next p ∙ ap surveyOf (walk-at-end n p e))
+      go rest (given (whole a q)) e = ap bump (rest q) ∙ then-bump (length (items (walk step m q))) next (ending (walk step m q))
+
+  module _ (fw : Forward low high step) where
+    -- a walk allowed as many items as there are octets left never says "more"
+    pub never-more : NeverMore low high step
+    never-more zero p l h left = go (step p) refl
+      where
+        here : p ≡ high
+        here = omega arith
+
+        at-end : step p ≡ given end
+        at-end = rw here (fw .at-end (omega arith))
+
+        go : (x : Answer (Next A)) → step p ≡ x → Final (ending (used p x))
+        go (refused n q) e = let z : _≡_ {A = ℕ} 0 1 = cc at-end in absurd (omega arith)
+        go (given end) e = tt
+        go (given (whole a q)) e = let z : _≡_ {A = ℕ} 0 1 = cc at-end in absurd (omega arith)
+    never-more (suc n) p l h left = go (never-more n) (step p) refl
+      where
+        go : ((q : ℕ) → low ≤ q → q ≤ high → high - q ≤ n → Final (ending (walk step n q)))
+            → (x : Answer (Next A)) → step p ≡ x → Final (ending (onward p (walk step n) x))
+        go rest (refused k q) e = tt
+        go rest (given end) e = tt
+        go rest (given (whole a q)) e =
+            let after : p < q = fw .onward e in
+            rest q (omega arith) (fw .inside e) (omega arith)
+
+    -- a place that a walk reached is one that a survey may start from
+    reached-inside : (n p : ℕ) → low ≤ p → p ≤ high → (r : ℕ) → Names (ending (walk step n p)) r → (low ≤ r) × (r ≤ high)
+    reached-inside zero p l h r = go (step p)
+      where
+        go : (x : Answer (Next A)) → Names (ending (used p x)) r → (low ≤ r) × (r ≤ high)
+        go (refused k q) e = omega arith
+        go (given end) e = omega arith
+        go (given (whole a q)) e = omega arith
+    reached-inside (suc n) p l h r = go (reached-inside n) (step p) refl
+      where
+        go : ((q : ℕ) → low ≤ q → q ≤ high → (r : ℕ) → Names (ending (walk step n q)) r → (low ≤ r) × (r ≤ high))
+            → (x : Answer (Next A)) → step p ≡ x → Names (ending (onward p (walk step n) x)) r → (low ≤ r) × (r ≤ high)
+        go rest (refused k q) e m = absurd m
+        go rest (given end) e m = omega arith
+        go rest (given (whole a q)) e m =
+            let after : p < q = fw .onward e in
+            rest q (omega arith) (fw .inside e) r m
+
+    -- surveys one after another end as one survey with the summed number does
+    pub surveys-add : SurveysAdd low high step
+    surveys-add n [] p = refl
+    surveys-add n (m ∷ ms) p = go (surveys-add m ms) (decLe low p) (decLe p high)
+      where
+        N : ℕ
+        N = sum m ms
+
+        next : ℕ → Survey
+        next = inTurn low high step m ms
+
+        go : ((q : ℕ) → next q ≡ survey low high step N q) → Dec (low ≤ p) → Dec (p ≤ high)
+            → then (survey low high step n p .count) next (survey low high step n p .ending) ≡ survey low high step (n + N) p
+        go rest (yes l) (yes h) =
+            let inside : (q : ℕ) → Names (ending (walk step n p)) q → next q ≡ surveyOf (walk step N q) =
+            λ q named. let i = reached-inside n p l h q named in rest q ∙ survey-inside N q (i .0) (i .1) in
+            rw (survey-inside n p l h, survey-inside (n + N) p l h)
+            (then-cong (length (items (walk step n p))) next (λ (q : ℕ). surveyOf (walk step N q)) (ending (walk step n p)) inside
+            ∙ sym (walk-add n N p))
+        go rest (yes l) (no h) = rw (survey-past n p l (lt-of-not-le h), survey-past (n + N) p l (lt-of-not-le h))
+        go rest (no l) h = rw (survey-below n p (lt-of-not-le l), survey-below (n + N) p (lt-of-not-le l))
+
+    -- items that tile the input from a place to its end are what a walk from there passes, and then it ends
+    pub tiles-walk : TilesWalk low high step
+    tiles-walk p xs n l t few = along t n (fw .at-end l) few
+      where
+        along : {p r : ℕ} {xs : List (Placed A)} → Tiles (Found step) p xs r → (n : ℕ) → step r ≡ given end → length xs ≤ n
+            → (items (walk step n p) ≡ xs) × (ending (walk step n p) ≡ ended r)
+        along (none {p}) n e few = (ap items (walk-at-end n p e), ap ending (walk-at-end n p e))
+        along (one h t) zero e few = absurd (omega arith)
+        along (one {p} {q} {r} {a} {xs} h t) (suc n) e few =
+            let rest = along t n e (omega arith) in
+            rw (h, rest .0, rest .1) (refl, refl)

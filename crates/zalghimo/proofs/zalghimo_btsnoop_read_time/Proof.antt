@@ -1,0 +1,20 @@
+-- `zalghimo::zalghimo_btsnoop_read_time` meets its contract: the row of the answer that the function below promises.
+-- Assumes nothing.
+use mir.Syntax.{w64}
+use mir.Facts.{toZ-ofZ}
+use mathlib.Core.Path.{_≡_, sym, ap, _∙_}
+use borrow.Author.Needs.{needs}
+use Rattle.zalghimo.proofs.zalghimo_btsnoop_read_time.Statement.{statement}
+use Rattle.zalghimo.proofs.zalghimo_btsnoop_read_time.Tie as tie
+
+read-time-requires : tie.Need-read-time-requires
+read-time-requires c κs = search needs
+
+time-requires : tie.Need-time-requires
+time-requires c κs = search needs
+
+returns : tie.Need-returns
+returns c = let z = toZ-ofZ {w = w64} {z = c .before .before .args .field} (c .before .before .fits .field) in cc z
+
+pub zalghimo-btsnoop-read-time-spec : {M : Type 1} → statement M
+zalghimo-btsnoop-read-time-spec = tie.close (tie.spec read-time-requires time-requires returns)

@@ -1,0 +1,21 @@
+-- `zalghimo::zalghimo_btsnoop_write_time` meets its contract: the row of the answer that the function below promises.
+-- Assumes nothing.
+use mir.Syntax.{w64}
+use mir.Facts.{toZ-ofZ}
+use mathlib.Core.Path.{_≡_, sym, ap, _∙_}
+use borrow.Author.Needs.{needs}
+use Rattle.zalghimo.proofs.zalghimo_btsnoop_write_time.Statement.{statement}
+use Rattle.zalghimo.proofs.zalghimo_btsnoop_write_time.Tie as tie
+
+write-time-requires : tie.Need-write-time-requires
+write-time-requires c κs = search needs
+
+time-field-requires : tie.Need-time-field-requires
+time-field-requires c κs = search needs
+
+returns : tie.Need-returns
+returns c = let z = toZ-ofZ {w = w64} {z = c .before .before .args .seconds} (c .before .before .fits .seconds) in cc z
+
+pub zalghimo-btsnoop-write-time-spec : {M : Type 1} → statement M
+zalghimo-btsnoop-write-time-spec =
+    tie.close (tie.spec write-time-requires time-field-requires returns)

@@ -1,0 +1,127 @@
+// The C boundary: each function asks nothing of its caller beyond valid pointers and lengths, and returns a struct of
+// 64-bit numbers by value. include/zalghimo.h declares them for C.
+ghost use mathlib.Core.Path.{_≡_};
+ghost use lib.ListN.{length};
+ghost use Rattle.btsnoop_rules.specs.Header.{headerAt};
+ghost use Rattle.btsnoop_rules.specs.Record.{recordAt};
+ghost use Rattle.btsnoop_rules.specs.File.{surveyAt, fileAt};
+ghost use Rattle.btsnoop_rules.specs.Writing.{headerWriting, headerWritten, recordWriting, recordWritten};
+ghost use Rattle.btsnoop_rules.specs.Drops.{dropsBetween};
+ghost use Rattle.btsnoop_earlier.specs.Earlier.{earlierOf};
+ghost use Rattle.capture_time.specs.Time.{reading, writing};
+ghost use Rattle.boundary.specs.Rows.{headerRow, fileRow, recordRow, surveyRow, earlierRow, timeRow, timeFieldRow, writtenRow};
+use boundary::Earlier;
+use boundary::File;
+use boundary::Header;
+use boundary::Record;
+use boundary::Survey;
+use boundary::Time;
+use boundary::TimeField;
+use boundary::Written;
+
+// Reads the file header of a BTSnoop file.
+#[no_mangle]
+pub extern "C" fn zalghimo_btsnoop_header(input: &[u8]) -> Header
+    ensures { λ r. ⌜ r ≡ headerRow (headerAt (now (input .entry))) ⌝ }
+{
+    boundary::btsnoop_rows::header(btsnoop::header::read(input))
+}
+
+// Checks a whole BTSnoop file.
+#[no_mangle]
+pub extern "C" fn zalghimo_btsnoop_check(input: &[u8]) -> File
+    ensures { λ r. ⌜ r ≡ fileRow (fileAt (now (input .entry))) ⌝ }
+{
+    boundary::btsnoop_rows::file(btsnoop_survey::check(input))
+}
+
+// Reads the record at a place.
+#[no_mangle]
+pub extern "C" fn zalghimo_btsnoop_record(input: &[u8], place: usize) -> Record
+    ensures { λ r. ⌜ r ≡ recordRow (recordAt (now (input .entry)) place) ⌝ }
+{
+    boundary::btsnoop_rows::record(btsnoop::record::read(input, place))
+}
+
+// Surveys the records from a place on, passing at most a number of them.
+#[no_mangle]
+pub extern "C" fn zalghimo_btsnoop_survey(input: &[u8], place: usize, number: usize) -> Survey
+    ensures { λ r. ⌜ r ≡ surveyRow (surveyAt (now (input .entry)) place number) ⌝ }
+{
+    boundary::btsnoop_rows::survey(btsnoop_survey::survey(input, place, number))
+}
+
+// Finds the earlier of two captures' records, each at a place.
+#[no_mangle]
+pub extern "C" fn zalghimo_btsnoop_earlier(
+    first: &[u8],
+    first_at: usize,
+    second: &[u8],
+    second_at: usize,
+) -> Earlier
+    ensures { λ r. ⌜ r ≡ earlierRow (earlierOf (now (first .entry)) «first_at» (now (second .entry)) «second_at») ⌝ }
+{
+    boundary::btsnoop_rows::earlier(btsnoop_earlier::answer(first, first_at, second, second_at))
+}
+
+// Reads a record's time field as Unix seconds and microseconds.
+#[no_mangle]
+pub extern "C" fn zalghimo_btsnoop_read_time(field: i64) -> Time
+    ensures { λ r. ⌜ r ≡ timeRow (reading field) ⌝ }
+{
+    boundary::time_rows::time(capture_time::read_time(field))
+}
+
+// Writes Unix seconds and microseconds as a record's time field.
+#[no_mangle]
+pub extern "C" fn zalghimo_btsnoop_write_time(seconds: i64, microseconds: u32) -> TimeField
+    ensures { λ r. ⌜ r ≡ timeFieldRow (writing seconds microseconds) ⌝ }
+{
+    boundary::time_rows::time_field(capture_time::write_time(seconds, microseconds))
+}
+
+// The drops between two records.
+#[no_mangle]
+pub extern "C" fn zalghimo_btsnoop_drops(earlier: u32, later: u32) -> u32
+    ensures { λ r. ⌜ r ≡ dropsBetween earlier later ⌝ }
+{
+    btsnoop::drops::between(earlier, later)
+}
+
+// Writes a BTSnoop file header into an output at a place.
+#[no_mangle]
+pub extern "C" fn zalghimo_btsnoop_write_header(
+    output: &mut [u8],
+    place: usize,
+    datalink: u32,
+) -> Written
+    ensures { λ r. ⌜ r ≡ writtenRow (headerWriting (length (now (output .entry))) place datalink) ⌝ }
+    ensures { λ _. ⌜ now (output .exit) ≡ headerWritten (now (output .entry)) place datalink ⌝ }
+{
+    boundary::btsnoop_rows::written(btsnoop_write::header(output, place, datalink))
+}
+
+// Writes a BTSnoop record into an output at a place.
+#[no_mangle]
+pub extern "C" fn zalghimo_btsnoop_write_record(
+    output: &mut [u8],
+    place: usize,
+    original: u32,
+    flags: u32,
+    drops: u32,
+    time: i64,
+    packet: &[u8],
+) -> Written
+    ensures { λ r. ⌜ r ≡ writtenRow (recordWriting (length (now (output .entry))) place original (now (packet .entry))) ⌝ }
+    ensures { λ _. ⌜ now (output .exit) ≡ recordWritten (now (output .entry)) place original flags drops time (now (packet .entry)) ⌝ }
+{
+    boundary::btsnoop_rows::written(btsnoop_write::record(
+        output,
+        place,
+        original,
+        flags,
+        drops,
+        time,
+        packet,
+    ))
+}

@@ -1,0 +1,48 @@
+/* Asks the library about a BTSnoop file: whether it is accepted, and where not, why and at which place. */
+#include <inttypes.h>
+#include <stdio.h>
+#include <stdlib.h>
+
+#include "zalghimo.h"
+
+/* The whole of a file, in memory that is never given back; NULL where it cannot be read. */
+static uint8_t *whole_file(const char *path, size_t *length)
+{
+    FILE *file = fopen(path, "rb");
+    size_t room = 1 << 16;
+    uint8_t *octets = malloc(room);
+    *length = 0;
+    while (file && octets) {
+        size_t got = fread(octets + *length, 1, room - *length, file);
+        *length += got;
+        if (got == 0)
+            break;
+        if (*length == room)
+            octets = realloc(octets, room *= 2);
+    }
+    if (!file || !octets || ferror(file))
+        return NULL;
+    fclose(file);
+    return octets;
+}
+
+int main(int count, char **words)
+{
+    size_t length;
+    if (count != 2) {
+        fprintf(stderr, "usage: check-capture FILE\n");
+        return 2;
+    }
+    uint8_t *octets = whole_file(words[1], &length);
+    if (!octets) {
+        perror(words[1]);
+        return 2;
+    }
+    zalghimo_file file = zalghimo_btsnoop_check(octets, length);
+    if (file.kind == ZALGHIMO_REFUSED) {
+        printf("refused: number %" PRIu64 ", place %" PRIu64 "\n", file.number, file.place);
+        return 1;
+    }
+    printf("accepted: datalink %" PRIu64 ", %" PRIu64 " records\n", file.datalink, file.records);
+    return 0;
+}

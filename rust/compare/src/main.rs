@@ -1,0 +1,54 @@
+//! Compares the static library with the model, answer by answer.
+//! Usage: compare [COUNT] [SEED]
+
+mod btsnoop;
+mod lent;
+mod prng;
+mod report;
+
+use prng::Prng;
+use report::Report;
+use std::process::ExitCode;
+
+/// Rounds where no count is given.
+const COUNT: u64 = 500_000;
+
+/// Seed where none is given.
+const SEED: u64 = 1;
+
+/// What every question uses: random numbers and the running result.
+pub struct Session {
+    prng: Prng,
+    report: Report,
+}
+
+/// The numbers given as arguments, or the defaults.
+fn arguments() -> Option<(u64, u64)> {
+    let given = std::env::args().skip(1).map(|text| text.parse().ok());
+    match given.collect::<Option<Vec<u64>>>()?.as_slice() {
+        [] => Some((COUNT, SEED)),
+        [count] => Some((*count, SEED)),
+        [count, seed] => Some((*count, *seed)),
+        _ => None,
+    }
+}
+
+fn main() -> ExitCode {
+    let Some((count, seed)) = arguments() else {
+        eprintln!("usage: compare [COUNT] [SEED]");
+        return ExitCode::from(2);
+    };
+    let mut session = Session {
+        prng: Prng::new(seed),
+        report: Report::default(),
+    };
+    btsnoop::ends::all(&mut session);
+    for _ in 0..count {
+        btsnoop::round(&mut session);
+    }
+    if session.report.finish() {
+        ExitCode::SUCCESS
+    } else {
+        ExitCode::FAILURE
+    }
+}

@@ -1,0 +1,6 @@
+//! The rules of the capture reader as plain Rust, one module for each format.
+
+pub mod btsnoop;
+pub mod refusal;
+pub mod rows;
+pub mod time;

@@ -1,0 +1,40 @@
+//! Refusals: a number and a place.
+
+/// Why an input is refused; the value is the refusal's number.
+#[derive(Clone, Copy, Debug, PartialEq, Eq)]
+pub enum Reason {
+    ShortHeader = 1,
+    Identification = 2,
+    Version = 3,
+    Datalink = 4,
+    ShortRecord = 5,
+    IncludedAboveOriginal = 6,
+    PacketPastInput = 7,
+    NoRoom = 13,
+    Time = 14,
+    RecordPlace = 17,
+}
+
+/// A refusal as it is handed out.
+#[derive(Clone, Copy, Debug, PartialEq, Eq)]
+pub struct Refusal {
+    pub reason: Reason,
+    pub place: usize,
+}
+
+impl Reason {
+    /// The refusal for this reason at a place.
+    pub fn at(self, place: usize) -> Refusal {
+        Refusal {
+            reason: self,
+            place,
+        }
+    }
+}
+
+impl Refusal {
+    /// The refusal's number.
+    pub fn number(&self) -> u64 {
+        self.reason as u64
+    }
+}

@@ -1,0 +1,28 @@
+//! Answers as the numbers of the C structs, in the structs' order.
+//! A signed number is given as its two's complement.
+
+use crate::refusal::Refusal;
+
+pub mod btsnoop;
+
+/// The kinds of an answer.
+pub const REFUSED: u64 = 0;
+pub const VALUES: u64 = 1;
+pub const END: u64 = 2;
+pub const MORE: u64 = 3;
+
+/// A row of a kind that is no refusal, with its values behind.
+fn row<const N: usize>(kind: u64, values: &[u64]) -> [u64; N] {
+    let mut row = [0; N];
+    row[0] = kind;
+    row[3..3 + values.len()].copy_from_slice(values);
+    row
+}
+
+/// A refusal's row, with the values that the refusal adds.
+fn refused<const N: usize>(refusal: Refusal, added: &[u64]) -> [u64; N] {
+    let mut row = row(REFUSED, added);
+    row[1] = refusal.number();
+    row[2] = refusal.place as u64;
+    row
+}
