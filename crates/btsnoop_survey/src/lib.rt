@@ -1,10 +1,13 @@
 // The survey of a BTSnoop file by instalments, and the check of a whole file.
 ghost use mathlib.Core.Path.{_≡_};
+ghost use Prim.Native.Nat.{_≤_};
+ghost use lib.ListN.{length};
+ghost use Rattle.btsnoop_rules.specs.Header.{headerLength};
 ghost use Rattle.btsnoop_rules.specs.File.{surveyAt, fileOf, fileAt};
-ghost use Rattle.btsnoop_survey.specs.Says.{surveySays, fileSays};
+ghost use Rattle.btsnoop_survey.specs.Says.{StepSays, surveySays, fileSays};
 use btsnoop::HEADER_LENGTH;
 use btsnoop::HeaderAnswer;
-use btsnoop::RecordAnswer;
+use btsnoop::RECORD_LENGTH;
 use refusals::Refusal;
 
 // What a survey answers: how many records it passed, and the place reached or the refusal.
@@ -45,18 +48,14 @@ pub fn survey(s: &[u8], place: usize, number: usize) -> SurveyAnswer
     let mut reached = place;
     let mut count = 0;
     while count < number {
-        match btsnoop::record::read(s, reached) {
-            RecordAnswer::Refused(refusal) => {
+        match judge(s, reached) {
+            Step::Refused(refusal) => {
                 return SurveyAnswer::Refused { count, refusal };
             }
-            RecordAnswer::End => {
+            Step::End => {
                 return SurveyAnswer::End { count, reached };
             }
-            RecordAnswer::Whole {
-                numbers: _,
-                packet: _,
-                next,
-            } => {
+            Step::Next(next) => {
                 reached = next;
                 count += 1;
             }
@@ -67,6 +66,45 @@ pub fn survey(s: &[u8], place: usize, number: usize) -> SurveyAnswer
     } else {
         SurveyAnswer::More { count, reached }
     }
+}
+
+// What a survey meets at a place: the refusal, the input's end, or a whole record and the place of the next.
+enum Step {
+    Refused(Refusal),
+    End,
+    Next(usize),
+}
+
+// Judges the record at a place by its two lengths alone; a survey needs no other number of it.
+fn judge(s: &[u8], place: usize) -> Step
+    requires { ⌜ (headerLength ≤ place) × (place ≤ length (now s)) ⌝ }
+    ensures { λ r. ⌜ StepSays (now (s .entry)) place r ⌝ }
+{
+    if place == s.len() {
+        return Step::End;
+    }
+    let left = s.len() - place;
+    if left < RECORD_LENGTH {
+        return Step::Refused(Refusal {
+            number: refusals::SHORT_RECORD,
+            place,
+        });
+    }
+    let included = octets::be32(s, place + 4);
+    if octets::be32(s, place) < included {
+        return Step::Refused(Refusal {
+            number: refusals::INCLUDED_LENGTH,
+            place: place + 4,
+        });
+    }
+    let size = included as usize;
+    if left - RECORD_LENGTH < size {
+        return Step::Refused(Refusal {
+            number: refusals::PACKET,
+            place,
+        });
+    }
+    Step::Next(place + RECORD_LENGTH + size)
 }
 
 // Checks a whole file: accepted exactly when its header is valid and whole records fill the rest.

@@ -4,9 +4,9 @@
 use Prim.Native.Nat.{_-_}
 use borrow.Author.Needs.{needs}
 use native.Mathlib.Omega.{arith}
-use mathlib.Core.Path.{_≡_, sym, ap, _∙_}
+use mathlib.Core.Path.{sym, subst}
 use denote.Ref.{now}
-use Rattle.btsnoop.specs.Says.{recordSays}
+use Rattle.btsnoop_survey.specs.Says.{StepSays}
 use Rattle.btsnoop_survey.proofs.SurveyLaws.{SoFar, below, past, start, refuses, ends, passes, finished, unfinished}
 use Rattle.btsnoop_survey.proofs.survey.Statement.{statement}
 use Rattle.btsnoop_survey.proofs.survey.Tie as tie
@@ -32,8 +32,8 @@ loop-holds c =
     let a = c .before .before .before .args in
     start (now (a .s)) (a .place) (a .number) (omega arith) (omega arith)
 
-read-requires : tie.Need-read-requires Inv-loop μ-loop
-read-requires c κs = search needs
+judge-requires : tie.Need-judge-requires Inv-loop μ-loop
+judge-requires c κs = let f = c .before .loop .inv in (f .low, f .high)
 
 enum-known-refusal : tie.Need-enum-known-refusal Inv-loop μ-loop
 enum-known-refusal c = search needs
@@ -41,7 +41,7 @@ enum-known-refusal c = search needs
 returns-3 : tie.Need-returns-3 Inv-loop μ-loop
 returns-3 c =
     let a = c .before .before .before .before .before .before .before .before .before .args in
-    let found = sym (c .before .before .before .read .ensures) ∙ ap recordSays (c .before .refusal .given .1) in
+    let found = subst (StepSays (now (a .s)) (c .before .before .before .before .before .loop .reached)) (c .before .refusal .given .1) (c .before .before .before .judge .ensures) in
     sym (refuses (now (a .s)) (a .place) (a .number) (c .before .before .before .before .before .loop .inv) (omega arith) found)
 
 enum-told : tie.Need-enum-told Inv-loop μ-loop
@@ -50,7 +50,7 @@ enum-told c = search needs
 returns-4 : tie.Need-returns-4 Inv-loop μ-loop
 returns-4 c =
     let a = c .before .before .before .before .before .before .before .before .args in
-    let found = sym (c .before .before .read .ensures) ∙ ap recordSays (c .enum-told .given .1) in
+    let found = subst (StepSays (now (a .s)) (c .before .before .before .before .loop .reached)) (c .enum-told .given .1) (c .before .before .judge .ensures) in
     sym (ends (now (a .s)) (a .place) (a .number) (c .before .before .before .before .loop .inv) (omega arith) found)
 
 enum-known-next : tie.Need-enum-known-next Inv-loop μ-loop
@@ -65,7 +65,7 @@ loop-less c = omega arith
 loop-again : tie.Need-loop-again Inv-loop μ-loop
 loop-again c =
     let a = c .before .before .before .before .before .before .before .before .before .args in
-    let found = sym (c .before .before .before .read .ensures) ∙ ap recordSays (c .before .next .given .1) in
+    let found = subst (StepSays (now (a .s)) (c .before .before .before .before .before .loop .reached)) (c .before .next .given .1) (c .before .before .before .judge .ensures) in
     passes (now (a .s)) (a .place) (a .number) (c .before .before .before .before .before .loop .inv) (omega arith) found
 
 returns-5 : tie.Need-returns-5 Inv-loop μ-loop
@@ -87,7 +87,7 @@ survey-spec =
     returns
     returns-2
     loop-holds
-    read-requires
+    judge-requires
     enum-known-refusal
     returns-3
     enum-told
