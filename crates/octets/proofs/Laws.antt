@@ -14,6 +14,13 @@ pub all-octets : (s : List ℕ) → ((i : ℕ) → getD s i 0 < 256) → Octets 
 all-octets [] h = tt
 all-octets (x ∷ xs) h = (h zero, all-octets xs (λ i. h (suc i)))
 
+-- lists with equal heads and equal tails are equal
+pub cons : {x y : ℕ} {xs ys : List ℕ} → x ≡ y → xs ≡ ys → x ∷ xs ≡ y ∷ ys
+cons p q = λ i. p i ∷ q i
+
+pub last : {x y : ℕ} → x ≡ y → x ∷ [] ≡ y ∷ []
+last p = λ i. p i ∷ []
+
 -- octets joined are octets, and so are parts of them
 pub octets-append : (s t : List ℕ) → Octets s → Octets t → Octets (s ++ t)
 octets-append [] t h k = k

@@ -1,31 +1,55 @@
--- Document 01, "Proved set": the examples P1 to P7, and the one statement that the rules answer them so.
+-- Document 01, "Proved set": the examples P1 to P11, and the one statement that the rules answer them so.
 -- Proof: proofs/Shown.antt.
 use Prim.Native.Nat.{ℕ, _-_}
 use mathlib.Core.Path.{_≡_}
 use mathlib.Core.List.{List, [], _∷_, _++_, map}
-use lib.ListN.{take, set}
+use lib.ListN.{take, set, replicate}
 use lib.IntN.{ℤ, pos, negsuc}
 use Rattle.refusals.specs.Refusals.{Answer, refused, given}
 use Rattle.btsnoop_rules.specs.File.{File, fileAt}
 use Rattle.btsnoop_rules.specs.Drops.{dropsBetween}
 use Rattle.capture_time.specs.Time.{CaptureTime, unixEpoch, reading}
+use Rattle.radiotap_rules.specs.Reading as Radiotap
+use Rattle.radiotap_rules.specs.Reading.{fieldPast, Field, Ending, ended, stopped, Reading, refusedBefore, refusedAtField, read}
+use Rattle.radiotap_rules.specs.Table.{rules123}
 
--- what an example asks: octets as a BTSnoop file, a record's time field, the drops of two records
+-- what an example asks: octets as a BTSnoop file, a record's time field, the drops of two records, octets as a radiotap
+-- header in an edition
 pub data Question : Type 0 where
   asFile : List ℕ → Question
   asTime : ℤ → Question
   asDrops : (earlier later : ℕ) → Question
+  asRadiotap : (edition : ℕ) → List ℕ → Question
+
+-- where the fields of a radiotap header start, and how its reading ends
+pub record Starts : Type 0 where
+  pub places : List ℕ
+  pub ending : Ending
+
+abbrev pub placesOf : List Field → List ℕ
+placesOf [] = []
+placesOf (f ∷ fs) = f .place ∷ placesOf fs
+
+abbrev pub startsOf : Reading → Answer Starts
+startsOf (refusedBefore n q) = refused n q
+startsOf (refusedAtField w b q) = refused fieldPast q
+startsOf (read fs e frame) = given (record { places = placesOf fs; ending = e })
 
 -- what the rules answer
 pub data Reply : Type 0 where
   file : Answer File → Reply
   time : Answer CaptureTime → Reply
   drops : ℕ → Reply
+  radiotap : Answer Starts → Reply
+
+abbrev pub reading123 : (edition : ℕ) → List ℕ → Reading
+reading123 edition s = Radiotap.reading rules123 edition s
 
 abbrev pub replyTo : Question → Reply
 replyTo (asFile s) = file (fileAt s)
 replyTo (asTime field) = time (reading field)
 replyTo (asDrops earlier later) = drops (dropsBetween earlier later)
+replyTo (asRadiotap edition s) = radiotap (startsOf (reading123 edition s))
 
 -- an example: its input and its answer
 pub record Example : Type 0 where
@@ -76,8 +100,57 @@ P6 =
 abbrev pub P7 : Example
 P7 = record { question = asDrops 4_294_967_290 5; reply = drops 11 }
 
+-- a radiotap header of one presence word, all octets behind it 0
+abbrev pub oneWord : (size byte0 byte1 : ℕ) → List ℕ
+oneWord size byte0 byte1 =
+    0x00 ∷ 0x00 ∷ size ∷ 0x00 ∷ byte0 ∷ byte1 ∷ 0x00 ∷ 0x00 ∷ replicate (size - 8) 0x00
+
+-- P8: one word 0x0000002F, length 23
+abbrev pub P8 : Example
+P8 =
+    record {
+      question = asRadiotap 0 (oneWord 23 0x2f 0x00);
+      reply = radiotap (given (record { places = 8 ∷ 16 ∷ 17 ∷ 18 ∷ 22 ∷ []; ending = ended }));
+    }
+
+-- P9: words 0xA0000001, 0x00000020, length 25
+abbrev pub P9 : Example
+P9 =
+    record {
+      question =
+          asRadiotap 0
+          (0x00 ∷ 0x00 ∷ 25 ∷ 0x00 ∷ 0x01 ∷ 0x00 ∷ 0x00 ∷ 0xa0 ∷ 0x20 ∷ 0x00 ∷ 0x00 ∷ 0x00 ∷ replicate 13 0x00);
+      reply = radiotap (given (record { places = 16 ∷ 24 ∷ []; ending = ended }));
+    }
+
+-- P10: word 0x00004002, length 12, in edition 1 and in edition 2
+abbrev pub P10 : Example
+P10 =
+    record {
+      question = asRadiotap 1 (oneWord 12 0x02 0x40);
+      reply = radiotap (given (record { places = 8 ∷ []; ending = stopped 0 14 }));
+    }
+
+abbrev pub P10′ : Example
+P10′ =
+    record {
+      question = asRadiotap 2 (oneWord 12 0x02 0x40);
+      reply = radiotap (given (record { places = 8 ∷ 10 ∷ []; ending = ended }));
+    }
+
+-- P11: P10 with length 11, in edition 2 and in edition 1
+abbrev pub P11 : Example
+P11 = record { question = asRadiotap 2 (oneWord 11 0x02 0x40); reply = radiotap (refused 12 10) }
+
+abbrev pub P11′ : Example
+P11′ =
+    record {
+      question = asRadiotap 1 (oneWord 11 0x02 0x40);
+      reply = radiotap (given (record { places = 8 ∷ []; ending = stopped 0 14 }));
+    }
+
 abbrev pub examples : List Example
-examples = P1 ∷ P2 ∷ P3 ∷ P4 ∷ P5 ∷ P6 ∷ P7 ∷ []
+examples = P1 ∷ P2 ∷ P3 ∷ P4 ∷ P5 ∷ P6 ∷ P7 ∷ P8 ∷ P9 ∷ P10 ∷ P10′ ∷ P11 ∷ P11′ ∷ []
 
 -- the rules answer every example as the paper does
 abbrev pub Shown : Type 0

@@ -1,15 +1,20 @@
 //! Writes stored questions and the model's answers to them.
-//! Usage: vectors STDIN_FILE STDOUT_FILE
+//! Usage: vectors READING_STDIN READING_STDOUT WRITING_STDIN WRITING_STDOUT
 
 mod btsnoop;
 mod question;
 
 use question::Question;
+use std::ops::RangeInclusive;
 use std::process::ExitCode;
 use std::{env, fs, io};
 
 /// The most octets that the questions may take.
 const LIMIT: usize = 60_000;
+
+/// The ops of the readers, and those of times, drops and writers.
+const READING: RangeInclusive<u8> = 1..=5;
+const WRITING: RangeInclusive<u8> = 6..=10;
 
 /// The questions of all formats.
 fn questions() -> Vec<Question> {
@@ -25,9 +30,12 @@ fn answer(question: &Question) -> String {
     format!("{} {line}\n", question.op)
 }
 
-/// Writes both files.
-fn write(stdin_file: &str, stdout_file: &str) -> io::Result<()> {
-    let questions = questions();
+/// Writes the questions of some ops and the answers to them.
+fn write(ops: RangeInclusive<u8>, stdin_file: &str, stdout_file: &str) -> io::Result<()> {
+    let questions: Vec<Question> = questions()
+        .into_iter()
+        .filter(|question| ops.contains(&question.op))
+        .collect();
     let octets: Vec<u8> = questions.iter().flat_map(Question::octets).collect();
     assert!(octets.len() <= LIMIT, "{} octets", octets.len());
     let lines: String = questions.iter().map(answer).collect();
@@ -43,11 +51,14 @@ fn write(stdin_file: &str, stdout_file: &str) -> io::Result<()> {
 
 fn main() -> ExitCode {
     let arguments: Vec<String> = env::args().skip(1).collect();
-    let [stdin_file, stdout_file] = arguments.as_slice() else {
-        eprintln!("usage: vectors STDIN_FILE STDOUT_FILE");
+    let [reading_stdin, reading_stdout, writing_stdin, writing_stdout] = arguments.as_slice()
+    else {
+        eprintln!("usage: vectors READING_STDIN READING_STDOUT WRITING_STDIN WRITING_STDOUT");
         return ExitCode::from(2);
     };
-    match write(stdin_file, stdout_file) {
+    let written = write(READING, reading_stdin, reading_stdout)
+        .and_then(|()| write(WRITING, writing_stdin, writing_stdout));
+    match written {
         Ok(()) => ExitCode::SUCCESS,
         Err(error) => {
             eprintln!("vectors: {error}");

@@ -1,6 +1,8 @@
 -- `octets::be16` meets its contract: its octets read one by one, then `join16`.
 -- Assumes nothing.
-use Rattle.octets.specs.Numbers.{number, numberAt}
+use mathlib.Core.Path.{ap, _∙_}
+use Rattle.octets.specs.Numbers.{big, number, numberAt}
+use Rattle.octets.proofs.Laws.{cons, last}
 use borrow.Author.Needs.{needs}
 use Rattle.octets.proofs.be16.Statement.{statement}
 use Rattle.octets.proofs.be16.Tie as tie
@@ -16,7 +18,10 @@ join16-requires c κs = search needs
 
 returns : tie.Need-returns
 unfolding numberAt number
-returns c = cc
+returns c =
+    c .join16 .ensures
+    ∙ ap (number big)
+    (cons (c .before .before .octet .ensures) (last (c .before .octet2 .ensures)))
 
 pub be16-spec : {M : Type 1} → statement M
 be16-spec = tie.close (tie.spec octet-requires octet-requires-2 join16-requires returns)

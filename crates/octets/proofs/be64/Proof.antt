@@ -1,6 +1,8 @@
 -- `octets::be64` meets its contract: its octets read one by one, then `join64`.
 -- Assumes nothing.
-use Rattle.octets.specs.Numbers.{number, numberAt}
+use mathlib.Core.Path.{ap, _∙_}
+use Rattle.octets.specs.Numbers.{big, number, numberAt}
+use Rattle.octets.proofs.Laws.{cons, last}
 use borrow.Author.Needs.{needs}
 use Rattle.octets.proofs.be64.Statement.{statement}
 use Rattle.octets.proofs.be64.Tie as tie
@@ -34,7 +36,10 @@ join64-requires c κs = search needs
 
 returns : tie.Need-returns
 unfolding numberAt number
-returns c = cc
+returns c =
+    c .join64 .ensures
+    ∙ ap (number big)
+    (cons (c .before .before .before .before .before .before .before .before .octet .ensures) (cons (c .before .before .before .before .before .before .before .octet2 .ensures) (cons (c .before .before .before .before .before .before .octet3 .ensures) (cons (c .before .before .before .before .before .octet4 .ensures) (cons (c .before .before .before .before .octet5 .ensures) (cons (c .before .before .before .octet6 .ensures) (cons (c .before .before .octet7 .ensures) (last (c .before .octet8 .ensures)))))))))
 
 pub be64-spec : {M : Type 1} → statement M
 be64-spec =

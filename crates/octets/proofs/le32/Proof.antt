@@ -1,6 +1,8 @@
 -- `octets::le32` meets its contract: its octets read one by one, the last first, then `join32`.
 -- Assumes nothing.
-use Rattle.octets.specs.Numbers.{number, numberAt}
+use mathlib.Core.Path.{ap, _∙_}
+use Rattle.octets.specs.Numbers.{little, number, numberAt}
+use Rattle.octets.proofs.Laws.{cons, last}
 use borrow.Author.Needs.{needs}
 use Rattle.octets.proofs.le32.Statement.{statement}
 use Rattle.octets.proofs.le32.Tie as tie
@@ -22,7 +24,10 @@ join32-requires c κs = search needs
 
 returns : tie.Need-returns
 unfolding numberAt number
-returns c = cc
+returns c =
+    c .join32 .ensures
+    ∙ ap (number little)
+    (cons (c .before .octet4 .ensures) (cons (c .before .before .octet3 .ensures) (cons (c .before .before .before .octet2 .ensures) (last (c .before .before .before .before .octet .ensures)))))
 
 pub le32-spec : {M : Type 1} → statement M
 le32-spec =

@@ -1,6 +1,9 @@
 -- `octets_put::put_be32` meets its contract: the number's octets, and then `put`.
 -- Assumes nothing.
 use borrow.Author.Needs.{needs}
+use mathlib.Core.Path.{ap, _∙_}
+use denote.Ref.{now}
+use Rattle.octets.specs.Parts.{put}
 use Rattle.octets_put.proofs.put_be32.Statement.{statement}
 use Rattle.octets_put.proofs.put_be32.Tie as tie
 
@@ -17,7 +20,9 @@ same-length : tie.Need-same-length
 same-length c = search needs
 
 returns : tie.Need-returns
-returns c = cc
+returns c =
+    let a = c .before .before .before .before .before .before .before .args in
+    c .before .before .put .ensures ∙ ap (put (now (a .out)) (a .at)) (c .before .before .before .before .octets-be32 .ensures)
 
 pub put-be32-spec : {M : Type 1} → statement M
 put-be32-spec =

@@ -13,7 +13,7 @@ file-requires : tie.Need-file-requires
 file-requires c κs = search needs
 
 returns : tie.Need-returns
-returns c = cc
+returns c = c .file .ensures ∙ ap fileRow (c .before .check .ensures)
 
 pub zalghimo-btsnoop-check-spec : {M : Type 1} → statement M
 zalghimo-btsnoop-check-spec = tie.close (tie.spec check-requires file-requires returns)

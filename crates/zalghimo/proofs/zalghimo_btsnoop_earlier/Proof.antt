@@ -13,7 +13,7 @@ earlier-requires : tie.Need-earlier-requires
 earlier-requires c κs = search needs
 
 returns : tie.Need-returns
-returns c = cc
+returns c = c .earlier .ensures ∙ ap earlierRow (c .before .answer .ensures)
 
 pub zalghimo-btsnoop-earlier-spec : {M : Type 1} → statement M
 zalghimo-btsnoop-earlier-spec = tie.close (tie.spec answer-requires earlier-requires returns)

@@ -13,7 +13,7 @@ header-requires : tie.Need-header-requires
 header-requires c κs = search needs
 
 returns : tie.Need-returns
-returns c = cc
+returns c = c .header .ensures ∙ ap headerRow (c .before .read .ensures)
 
 pub zalghimo-btsnoop-header-spec : {M : Type 1} → statement M
 zalghimo-btsnoop-header-spec = tie.close (tie.spec read-requires header-requires returns)

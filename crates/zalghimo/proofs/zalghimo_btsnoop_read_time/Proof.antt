@@ -4,6 +4,9 @@ use mir.Syntax.{w64}
 use mir.Facts.{toZ-ofZ}
 use mathlib.Core.Path.{_≡_, sym, ap, _∙_}
 use borrow.Author.Needs.{needs}
+use lib.IntN.{ℤ}
+use Rattle.boundary.specs.Rows.{timeRow}
+use Rattle.capture_time.specs.Time.{reading}
 use Rattle.zalghimo.proofs.zalghimo_btsnoop_read_time.Statement.{statement}
 use Rattle.zalghimo.proofs.zalghimo_btsnoop_read_time.Tie as tie
 
@@ -14,7 +17,9 @@ time-requires : tie.Need-time-requires
 time-requires c κs = search needs
 
 returns : tie.Need-returns
-returns c = let z = toZ-ofZ {w = w64} {z = c .before .before .args .field} (c .before .before .fits .field) in cc z
+returns c =
+    let field = toZ-ofZ {w = w64} {z = c .before .before .args .field} (c .before .before .fits .field) in
+    c .time .ensures ∙ ap timeRow (c .before .read-time .ensures) ∙ ap (λ (z : ℤ). timeRow (reading z)) field
 
 pub zalghimo-btsnoop-read-time-spec : {M : Type 1} → statement M
 zalghimo-btsnoop-read-time-spec = tie.close (tie.spec read-time-requires time-requires returns)

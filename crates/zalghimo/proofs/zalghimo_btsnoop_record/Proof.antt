@@ -13,7 +13,7 @@ record-requires : tie.Need-record-requires
 record-requires c κs = search needs
 
 returns : tie.Need-returns
-returns c = cc
+returns c = c .«record» .ensures ∙ ap recordRow (c .before .read .ensures)
 
 pub zalghimo-btsnoop-record-spec : {M : Type 1} → statement M
 zalghimo-btsnoop-record-spec = tie.close (tie.spec read-requires record-requires returns)

@@ -13,7 +13,7 @@ survey-requires-2 : tie.Need-survey-requires-2
 survey-requires-2 c κs = search needs
 
 returns : tie.Need-returns
-returns c = cc
+returns c = c .survey2 .ensures ∙ ap surveyRow (c .before .survey .ensures)
 
 pub zalghimo-btsnoop-survey-spec : {M : Type 1} → statement M
 zalghimo-btsnoop-survey-spec = tie.close (tie.spec survey-requires survey-requires-2 returns)

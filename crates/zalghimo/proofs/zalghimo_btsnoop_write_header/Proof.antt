@@ -2,6 +2,7 @@
 -- Assumes nothing.
 use mathlib.Core.Path.{_≡_, sym, ap, _∙_}
 use borrow.Author.Needs.{needs}
+use Rattle.boundary.specs.Rows.{writtenRow}
 use Rattle.zalghimo.proofs.zalghimo_btsnoop_write_header.Statement.{statement}
 use Rattle.zalghimo.proofs.zalghimo_btsnoop_write_header.Tie as tie
 
@@ -15,7 +16,7 @@ same-length : tie.Need-same-length
 same-length c = search needs
 
 returns : tie.Need-returns
-returns c = (cc, c .before .before .before .header .ensures .1)
+returns c = (c .written .ensures ∙ ap writtenRow (c .before .before .before .header .ensures .0), c .before .before .before .header .ensures .1)
 
 pub zalghimo-btsnoop-write-header-spec : {M : Type 1} → statement M
 zalghimo-btsnoop-write-header-spec =

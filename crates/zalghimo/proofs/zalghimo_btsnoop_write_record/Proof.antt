@@ -7,6 +7,7 @@ use denote.Ref.{now}
 use Rattle.btsnoop_rules.specs.Writing.{recordWritten}
 use mathlib.Core.Path.{_≡_, sym, ap, _∙_}
 use borrow.Author.Needs.{needs}
+use Rattle.boundary.specs.Rows.{writtenRow}
 use Rattle.zalghimo.proofs.zalghimo_btsnoop_write_record.Statement.{statement}
 use Rattle.zalghimo.proofs.zalghimo_btsnoop_write_record.Tie as tie
 
@@ -23,7 +24,7 @@ returns : tie.Need-returns
 returns c =
     let a = c .before .before .before .before .before .before .before .args in
     let time = toZ-ofZ {w = w64} {z = a .time} (c .before .before .before .before .before .before .before .fits .time) in (
-      cc,
+      c .written .ensures ∙ ap writtenRow (c .before .before .before .«record» .ensures .0),
       c .before .before .before .«record» .ensures .1
           ∙ ap (λ (z : ℤ). recordWritten (now (a .output)) (a .place) (a .original) (a .flags) (a .drops) z (now (a .packet))) time,
     )

@@ -4,6 +4,9 @@ use mir.Syntax.{w64}
 use mir.Facts.{toZ-ofZ}
 use mathlib.Core.Path.{_≡_, sym, ap, _∙_}
 use borrow.Author.Needs.{needs}
+use lib.IntN.{ℤ}
+use Rattle.boundary.specs.Rows.{timeFieldRow}
+use Rattle.capture_time.specs.Time.{writing}
 use Rattle.zalghimo.proofs.zalghimo_btsnoop_write_time.Statement.{statement}
 use Rattle.zalghimo.proofs.zalghimo_btsnoop_write_time.Tie as tie
 
@@ -14,7 +17,11 @@ time-field-requires : tie.Need-time-field-requires
 time-field-requires c κs = search needs
 
 returns : tie.Need-returns
-returns c = let z = toZ-ofZ {w = w64} {z = c .before .before .args .seconds} (c .before .before .fits .seconds) in cc z
+returns c =
+    let seconds = toZ-ofZ {w = w64} {z = c .before .before .args .seconds} (c .before .before .fits .seconds) in
+    c .time-field .ensures
+    ∙ ap timeFieldRow (c .before .write-time .ensures)
+    ∙ ap (λ (z : ℤ). timeFieldRow (writing z (c .before .before .args .microseconds))) seconds
 
 pub zalghimo-btsnoop-write-time-spec : {M : Type 1} → statement M
 zalghimo-btsnoop-write-time-spec =

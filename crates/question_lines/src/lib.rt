@@ -1,0 +1,65 @@
+// The stored questions of the independent program, and the lines that answer them (rust/README.md has the format).
+ghost use mathlib.Core.Path.{_≡_};
+ghost use Prim.Native.Nat.{_≤_};
+ghost use lib.ListN.{length};
+use libc::STDOUT_FILENO;
+
+// The length of a question before its octets: its number, five parameters and two lengths.
+pub const QUESTION_LENGTH: usize = 49;
+
+// How many octets the question at the start of an input takes; 0 where no whole question stands there.
+pub fn question_length(input: &[u8]) -> usize
+    ensures { λ r. ⌜ r ≤ length (now (input .entry)) ⌝ }
+{
+    if input.len() < QUESTION_LENGTH {
+        return 0;
+    }
+    let left = input.len() - QUESTION_LENGTH;
+    let first = octets::be32(input, 41) as usize;
+    let second = octets::be32(input, 45) as usize;
+    if left < first {
+        return 0;
+    }
+    if left - first < second {
+        return 0;
+    }
+    QUESTION_LENGTH + first + second
+}
+
+// Writes numbers in decimal, each after a space, and tells how many.
+pub fn numbers(ns: &[u64]) -> usize
+    ensures { λ r. ⌜ r ≡ length (now (ns .entry)) ⌝ }
+{
+    let mut i = 0;
+    while i < ns.len() {
+        number(ns[i]);
+        i += 1;
+    }
+    i
+}
+
+fn number(n: u64) {
+    io::write_all(STDOUT_FILENO, b" ");
+    io::print_decimal(STDOUT_FILENO, n);
+}
+
+// Writes octets in hexadecimal after a space, a dash where there are none, and tells how many.
+pub fn octets(s: &[u8]) -> usize
+    ensures { λ r. ⌜ r ≡ length (now (s .entry)) ⌝ }
+{
+    io::write_all(STDOUT_FILENO, b" ");
+    if s.len() == 0 {
+        io::write_all(STDOUT_FILENO, b"-");
+        return 0;
+    }
+    let mut i = 0;
+    while i < s.len() {
+        io::print_hex(STDOUT_FILENO, wide(s[i]), 2);
+        i += 1;
+    }
+    i
+}
+
+fn wide(x: u8) -> u64 {
+    x as u64
+}

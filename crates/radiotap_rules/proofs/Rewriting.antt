@@ -1,0 +1,245 @@
+-- A header with one presence word, read without a stop and written again: when its octets come out unchanged.
+-- Assumes nothing.
+use Prim.Native.Nat.{ℕ, _+_, _-_, _≤_, _<_}
+use mathlib.Core.Path.{_≡_, refl, sym, ap, _∙_}
+use mathlib.Core.Bool.{Bool, true, false, cond, _&&_, and-eq-true-iff}
+use mathlib.Core.Logic.{_↔_}
+use mathlib.Core.List.{List, [], _∷_, _++_, append-cancel-left}
+use native.Mathlib.Omega.{arith}
+use native.Mathlib.Nat.{sub-self}
+use lib.ListN.{length, getD, take, drop, replicate, length-append, length-replicate, getD-replicate}
+use lib.Seq.{take-at, drop-at, take-add, drop-drop, getD-take, getD-drop, ext-getD}
+use lib.Dec.{leb, ltb, eqb}
+use borrow.Author.Tests.{leb-true, eqb-true}
+use Rattle.refusals.specs.Refusals.{Answer, refused, given, shortHeader}
+use Rattle.octets.specs.Numbers.{little, octetsOf, octetsAt, numberAt, Octets}
+use Rattle.octets.specs.Parts.{part}
+use Rattle.octets.proofs.Laws.{write-after-read, octets-take, octets-drop}
+use Rattle.octets.proofs.PartLaws.{length-part, octets-part}
+use Rattle.radiotap_rules.specs.Rules.{Rules, tableOk, editionTaken, served}
+use Rattle.radiotap_rules.specs.Reading.{wordPast, editionAbove, fixedLength, lengthIn, fixedHeader, bitSet, withWord, wordsFrom, presenceWords, aligned, Field, ended, stopped, Walk, refusedAt, shown, Reading, refusedBefore, fieldsOf, readWalk, readWords, readFixed, reading, read}
+use Rattle.radiotap_rules.specs.Writing.{writable, Planned, plan, summed, laid, headerOctets}
+use Rattle.radiotap_rules.specs.Rewriting.{joined, GapsZero, lastEnd, OneWord, RewritesItself}
+use Rattle.radiotap_rules.proofs.Places.{length-inside}
+use Rattle.radiotap_rules.proofs.Planning.{Aligned, aligned-after, plan-aligned, end-after, length-laid, plannedFields, WalkedTo, walked}
+
+-- a part of an input is its first part and the part behind that
+part-add : (s : List ℕ) (at m n : ℕ) → part s at (m + n) ≡ part s at m ++ part s (at + m) n
+unfolding part
+part-add s at m n = take-add m n (drop at s) ∙ rw (drop-drop m at s)
+
+-- the same up to places
+part-split : (s : List ℕ) (a b c : ℕ) → a ≤ b → b ≤ c → part s a (c - a) ≡ part s a (b - a) ++ part s b (c - b)
+part-split s a b c l h =
+    let sum : c - a ≡ (b - a) + (c - b) = omega arith in
+    let there : a + (b - a) ≡ b = omega arith in
+    rw sum (part-add s a (b - a) (c - b) ∙ rw there)
+
+getD-part : (s : List ℕ) (at n i : ℕ) → i < n → getD (part s at n) i 0 ≡ getD s (at + i) 0
+unfolding part
+getD-part s at n i h = getD-take n (drop at s) i 0 h ∙ getD-drop at s i 0
+
+-- the octets from a place up to another are a gap of zeros exactly if each one is 0
+gap-zero : (s : List ℕ) (at place : ℕ) → at ≤ place → place ≤ length s
+    → (replicate (place - at) 0 ≡ part s at (place - at)) ↔ ((i : ℕ) → at ≤ i → i < place → getD s i 0 ≡ 0)
+gap-zero s at place l h = (each, all)
+  where
+    n : ℕ
+    n = place - at
+
+    fill : List ℕ
+    fill = replicate n 0
+
+    each : fill ≡ part s at n → (i : ℕ) → at ≤ i → i < place → getD s i 0 ≡ 0
+    each e i low high =
+        let there : at + (i - at) ≡ i = omega arith in
+        let k : i - at < n = omega arith in
+        sym (rw there at (getD-part s at n (i - at) k)) ∙ rw (← e) (getD-replicate n (i - at) 0 0 k)
+
+    all : ((i : ℕ) → at ≤ i → i < place → getD s i 0 ≡ 0) → fill ≡ part s at n
+    all zeros =
+        let long : length fill ≡ n = length-replicate n 0 in
+        ext-getD 0 fill (part s at n) (long ∙ sym (length-part s at n (omega arith)))
+        (λ i k.
+        let k′ : i < n = omega arith in
+        getD-replicate n i 0 0 k′ ∙ sym (getD-part s at n i k′ ∙ zeros (at + i) (omega arith) (omega arith)))
+
+-- two lists with the same middle behind fronts of the same length are equal exactly if the fronts and the backs are
+same-middle : (f f′ mid b b′ : List ℕ) → length f ≡ length f′ → (f ++ (mid ++ b) ≡ f′ ++ (mid ++ b′)) ↔ ((f ≡ f′) × (b ≡ b′))
+same-middle f f′ mid b b′ long = (
+  λ e. (
+    sym (take-at f (mid ++ b) (length f) refl) ∙ ap (take (length f)) e ∙ take-at f′ (mid ++ b′) (length f) (sym long),
+    append-cancel-left mid b b′
+        (sym (drop-at f (mid ++ b) (length f) refl) ∙ ap (drop (length f)) e ∙ drop-at f′ (mid ++ b′) (length f) (sym long)),
+  ),
+  λ e. rw (e .0, e .1),
+)
+
+module _ (s : List ℕ) where
+  -- the values that an input holds for planned fields have the summed length
+  length-values : (at : ℕ) (ps : List Planned) → Aligned ps → lastEnd at ps ≤ length s
+      → length (joined (plannedFields s at ps)) ≡ summed ps
+  length-values at [] a h = refl
+  length-values at (p ∷ ps) a h =
+      let place : ℕ = aligned (p .row .alignment) at in
+      let size : ℕ = p .row .size in
+      let inside : place + size ≤ length s = omega (arith, end-after (place + size) ps (a .1)) in
+      length-append (part s place size) (joined (plannedFields s (place + size) ps))
+      ∙ rw (length-part s place size inside, length-values (place + size) ps (a .1) h)
+
+  -- laid from a place on, they are the input's octets there exactly if its gaps are 0
+  laid-own : (at : ℕ) (ps : List Planned) → Aligned ps → lastEnd at ps ≤ length s
+      → (laid ps at (joined (plannedFields s at ps)) ≡ part s at (lastEnd at ps - at)) ↔ GapsZero s at ps
+  unfolding part
+  laid-own at [] a h = (λ e. tt, λ g. rw (sub-self at))
+  laid-own at (p ∷ ps) a h =
+      let place : ℕ = aligned (p .row .alignment) at in
+      let size : ℕ = p .row .size in
+      let next : ℕ = place + size in
+      let end : ℕ = lastEnd next ps in
+      let after : at ≤ place = aligned-after (p .row .alignment) at (a .0) in
+      let ends : next ≤ end = end-after next ps (a .1) in
+      let gap : List ℕ = part s at (place - at) in
+      let value : List ℕ = part s place size in
+      let values : List ℕ = joined (plannedFields s next ps) in
+      let long : length value ≡ size = length-part s place size (omega arith) in
+      let fill : List ℕ = replicate (place - at) 0 in
+      let fills : length fill ≡ length gap =
+      length-replicate (place - at) 0 ∙ sym (length-part s at (place - at) (omega arith)) in
+      let left : laid (p ∷ ps) at (value ++ values) ≡ fill ++ (value ++ laid ps next values) =
+      rw (take-at value values size long, drop-at value values size long) in
+      let sized : next - place ≡ size = omega arith in
+      let right : part s at (end - at) ≡ gap ++ (value ++ part s next (end - next)) =
+      part-split s at place end after (omega arith)
+      ∙ ap (λ (l : List ℕ). gap ++ l) (part-split s place next end (omega arith) ends ∙ rw sized) in
+      let same = same-middle fill gap value (laid ps next values) (part s next (end - next)) fills in
+      let zeros = gap-zero s at place after (omega arith) in
+      let rest = laid-own next ps (a .1) h in (
+        λ e. let both = same .0 (sym left ∙ e ∙ right) in (zeros .0 (both .0), rest .0 (both .1)),
+        λ g. left ∙ same .1 (zeros .1 (g .0), rest .1 (g .1)) ∙ sym right,
+      )
+
+-- what a fixed header that is accepted holds
+record Fixed (s : List ℕ) (size : ℕ) : Type 0 where
+  version : getD s 0 0 ≡ 0
+  sized : lengthIn s ≡ size
+  low : fixedLength ≤ size
+
+-- a test that chooses something given, and not a refusal, holds
+chosen : (t : Bool) (n q : ℕ) {x : Answer ℕ} {a : ℕ} → cond t x (refused n q) ≡ given a → (t ≡ true) × (x ≡ given a)
+chosen true n q e = (refl, e)
+chosen false n q e = let z : _≡_ {A = ℕ} 0 1 = cc in absurd (omega arith)
+
+fixed-back : (s : List ℕ) (size : ℕ) → fixedHeader s ≡ given size → Fixed s size
+unfolding fixedHeader
+fixed-back s size e =
+    let versioned = chosen (eqb (getD s 0 0) 0) _ _ (long (ltb (length s) fixedLength) _ e) in
+    let fits = chosen (leb fixedLength (lengthIn s) && leb (lengthIn s) (length s)) _ _ (versioned .1) in
+    let low : fixedLength ≤ lengthIn s = leb-true fixedLength (lengthIn s) (and-eq-true-iff _ _ .0 (fits .0) .0) in
+    let sized : lengthIn s ≡ size = cc in
+    record { version = eqb-true (getD s 0 0) 0 (versioned .0); sized = sized; low = omega arith }
+  where
+    long : (t : Bool) (x : Answer ℕ) → cond t (refused shortHeader (length s)) x ≡ given size → x ≡ given size
+    long true x e = let z : _≡_ {A = ℕ} 0 1 = cc in absurd (omega arith)
+    long false x e = e
+
+-- where one presence word is given, it is the number at the first word's place
+word-back : (s : List ℕ) (size word : ℕ) → presenceWords s size ≡ given (word ∷ []) → numberAt little 4 s 4 ≡ word
+unfolding presenceWords
+word-back s size word = go (bitSet (numberAt little 4 s 4) 31) (leb 12 size) (wordsFrom s size 8 6)
+  where
+    go : (a b : Bool) (x : Answer (List ℕ))
+        → elim a [
+          | true ↦ elim b [
+            | true ↦ withWord (numberAt little 4 s 4) x
+            | false ↦ refused wordPast 4
+          ]
+          | false ↦ given (numberAt little 4 s 4 ∷ [])
+        ] ≡ given (word ∷ []) → numberAt little 4 s 4 ≡ word
+    go true true (refused n q) e = let z : _≡_ {A = ℕ} 0 1 = cc in absurd (omega arith)
+    go true true (given ws) e = cc
+    go true false x e = let z : _≡_ {A = ℕ} 0 1 = cc in absurd (omega arith)
+    go false b x e = cc
+
+-- octets read one by one are octets
+octets-at : (s : List ℕ) (at n : ℕ) → at + n ≤ length s → Octets s → Octets (octetsAt s at n)
+unfolding part
+octets-at s at n h o = rw (octets-part s at 0 n (omega arith)) (octets-take n (drop (at + 0) s) (octets-drop (at + 0) s o))
+
+-- the octets of an accepted header up to its length: 0, the pad octet, its length, its first presence word and the others
+header-back : (s : List ℕ) (size word : ℕ) → Octets s → fixedHeader s ≡ given size → presenceWords s size ≡ given (word ∷ [])
+    → take size s ≡ 0 ∷ getD s 1 0 ∷ (octetsOf little 2 size ++ (octetsOf little 4 word ++ part s fixedLength (size - fixedLength)))
+unfolding numberAt part
+header-back s size word o header words =
+    let fixed = fixed-back s size header in
+    let input : size ≤ length s = length-inside s size header in
+    let low : fixedLength ≤ size = fixed .low in
+    let two : octetsOf little 2 size ≡ octetsAt s 2 2 =
+    rw (← fixed .sized) (write-after-read little (octetsAt s 2 2) (octets-at s 2 2 (omega arith) o)) in
+    let four : octetsOf little 4 word ≡ octetsAt s 4 4 =
+    rw (← word-back s size word words) (write-after-read little (octetsAt s 4 4) (octets-at s 4 4 (omega arith) o)) in
+    let sum : size ≡ fixedLength + (size - fixedLength) = omega arith in
+    let rest : List ℕ = part s fixedLength (size - fixedLength) in
+    let front : octetsAt s 0 fixedLength ≡ take fixedLength s = octets-part s 0 0 fixedLength (omega arith) in
+    ap (λ (n : ℕ). take n s) sum
+    ∙ take-add fixedLength (size - fixedLength) s
+    ∙ ap (λ (l : List ℕ). l ++ rest) (sym front)
+    ∙ rw (fixed .version, two, four)
+
+-- a walk that is read to its end shows the planned fields, which end inside the length
+read-planned : (s : List ℕ) (size at : ℕ) (ps : List Planned) (known : Bool) (x : Walk) (fs : List Field) (frame : List ℕ)
+    → WalkedTo s size at ps known x → readWalk s size x ≡ read fs ended frame
+    → (fs ≡ plannedFields s at ps) × (lastEnd at ps ≤ size)
+read-planned s size at ps known (refusedAt w b p) fs frame h e = let z : _≡_ {A = ℕ} 0 1 = cc in absurd (omega arith)
+read-planned s size at ps known (shown fs′ ended) fs frame h e = let same : fs ≡ fs′ = cc in (same ∙ h .0, h .1)
+read-planned s size at ps known (shown fs′ (stopped w b)) fs frame h e = let z : _≡_ {A = ℕ} 0 1 = cc in absurd (omega arith)
+
+-- the fields of such a header are the planned ones
+one-word-planned : (rules : Rules) (edition : ℕ) (s : List ℕ) (size word : ℕ) (fs : List Field) (frame : List ℕ) → tableOk rules ≡ true
+    → OneWord rules edition s size word fs frame
+    → let ps = plan rules (editionTaken (rules .readingDefault) edition) word in
+    (fs ≡ plannedFields s fixedLength ps) × (lastEnd fixedLength ps ≤ size)
+unfolding reading
+one-word-planned rules edition s size word fs frame ok one =
+    read-planned s size fixedLength (plan rules e word) (writable rules e word) (fieldsOf rules e s size (word ∷ [])) fs frame
+    (walked rules e s size word ok (fixed-back s size (one .header) .low))
+    (sym (ap (readFixed rules e s) (one .header) ∙ ap (readWords rules e s size) (one .words)) ∙ go (served rules edition) (one .whole))
+  where
+    e : ℕ
+    e = editionTaken (rules .readingDefault) edition
+
+    go : (t : Bool) {x : Reading} → cond t x (refusedBefore editionAbove 0) ≡ read fs ended frame → x ≡ read fs ended frame
+    go true h = h
+    go false h = let z : _≡_ {A = ℕ} 0 1 = cc in absurd (omega arith)
+
+-- a header with one presence word, read without a stop, is written again to its own octets exactly when its pad octets
+-- are all 0 and its length ends at the last field
+pub rewrites-itself : RewritesItself
+unfolding headerOctets octetsOf
+rewrites-itself rules edition s size word fs frame ok o one =
+    let ps : List Planned = plan rules (editionTaken (rules .readingDefault) edition) word in
+    let a : Aligned ps = plan-aligned rules (editionTaken (rules .readingDefault) edition) word ok in
+    let fields = one-word-planned rules edition s size word fs frame ok one in
+    let last : lastEnd fixedLength ps ≤ size = fields .1 in
+    let input : size ≤ length s = length-inside s size (one .header) in
+    let low : fixedLength ≤ size = fixed-back s size (one .header) .low in
+    let values : List ℕ = joined (plannedFields s fixedLength ps) in
+    let xs : List ℕ = laid ps fixedLength values in
+    let summedUp = length-values s fixedLength ps a (omega arith) in
+    let ends : fixedLength + length xs ≡ lastEnd fixedLength ps = length-laid fixedLength ps values a (omega arith) in
+    let own = laid-own s fixedLength ps a (omega arith) in
+    let rest : List ℕ = part s fixedLength (size - fixedLength) in
+    let long : length rest ≡ size - fixedLength = length-part s fixedLength (size - fixedLength) (omega arith) in
+    let head = header-back s size word o (one .header) (one .words) in
+    rw (fields .0) (
+      λ e.
+          let whole = e ∙ head in
+          let pad : 0 ≡ getD s 1 0 = ap (λ (l : List ℕ). getD l 1 0) whole in
+          let same : xs ≡ rest = ap (drop fixedLength) whole in
+          let sized : size ≡ lastEnd fixedLength ps = omega (arith, ap length same) in
+          (sym pad, own .0 (same ∙ ap (λ (n : ℕ). part s fixedLength (n - fixedLength)) sized), sized),
+      λ h.
+          let same : xs ≡ rest = own .1 (h .1) ∙ ap (λ (n : ℕ). part s fixedLength (n - fixedLength)) (sym (h .2)) in
+          let sized : fixedLength + length xs ≡ size = omega arith in
+          rw (sized, same, head, h .0),
+    )

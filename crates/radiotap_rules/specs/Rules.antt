@@ -1,0 +1,69 @@
+-- Document 01, "Radiotap": the table of fields, as rules that a reading is given.
+use Prim.Native.Nat.{ℕ}
+use mathlib.Core.Bool.{Bool, true, false, cond, not, _&&_, _||_}
+use mathlib.Core.List.{List, [], _∷_}
+use lib.ListN.{getD, length}
+use lib.Dec.{leb, ltb, eqb}
+
+-- a row of the table: alignment, size, first edition that knows the field (0: known to none)
+pub record Row : Type 0 where
+  pub alignment : ℕ
+  pub size : ℕ
+  pub first : ℕ
+
+abbrev pub row : (alignment size first : ℕ) → Row
+row a s f = record { alignment = a; size = s; first = f }
+
+-- a row that no edition knows
+abbrev pub unknown : Row
+unknown = row 0 0 0
+
+-- the rules: the rows by field number, the editions that edition 0 asks for when reading and when writing, the newest
+pub record Rules : Type 0 where
+  pub rows : List Row
+  pub readingDefault : ℕ
+  pub writingDefault : ℕ
+  pub newest : ℕ
+
+-- the row of a field number; past the table it is unknown
+abbrev pub rowOf : Rules → ℕ → Row
+rowOf rules n = getD (rules .rows) n unknown
+
+-- whether an edition knows a field number
+abbrev pub knows : Rules → (edition n : ℕ) → Bool
+knows rules edition n = leb 1 (rowOf rules n .first) && leb (rowOf rules n .first) edition
+
+-- an alignment is 1, 2, 4 or 8
+abbrev pub alignmentOk : ℕ → Bool
+alignmentOk a = eqb a 1 || eqb a 2 || eqb a 4 || eqb a 8
+
+-- the test of one row: known to none, or with an alignment, a size above 0 and a first edition from 1 to the newest
+abbrev pub rowOk : (newest : ℕ) → Row → Bool
+rowOk newest r = cond (eqb (r .first) 0) true (alignmentOk (r .alignment) && ltb 0 (r .size) && leb (r .first) newest)
+
+abbrev pub rowsOk : (newest : ℕ) → List Row → Bool
+rowsOk newest [] = true
+rowsOk newest (r ∷ rs) = rowOk newest r && rowsOk newest rs
+
+-- field numbers that no edition knows
+abbrev pub noneKnows : Rules → List ℕ → Bool
+noneKnows rules [] = true
+noneKnows rules (n ∷ ns) = not (knows rules (rules .newest) n) && noneKnows rules ns
+
+-- the one test over a table: every row passes, 18 and 29 to 31 are known to none, and the defaults are served
+abbrev pub tableOk : Rules → Bool
+tableOk rules =
+    rowsOk (rules .newest) (rules .rows)
+    && noneKnows rules (18 ∷ 29 ∷ 30 ∷ 31 ∷ [])
+    && leb 1 (rules .readingDefault)
+    && leb (rules .readingDefault) (rules .newest)
+    && leb 1 (rules .writingDefault)
+    && leb (rules .writingDefault) (rules .newest)
+
+-- edition 0 asks for a default
+abbrev pub editionTaken : (default edition : ℕ) → ℕ
+editionTaken default edition = cond (eqb edition 0) default edition
+
+-- served are the editions that 15 does not refuse
+abbrev pub served : Rules → (edition : ℕ) → Bool
+served rules edition = leb edition (rules .newest)
