@@ -1,7 +1,7 @@
 // The stored questions of the independent program, and the lines that answer them (rust/README.md has the format).
 ghost use mathlib.Core.Path.{_≡_};
-ghost use Prim.Native.Nat.{_≤_};
 ghost use lib.ListN.{length};
+ghost use Rattle.question_lines.specs.Questions.{questionLength};
 use libc::STDOUT_FILENO;
 
 // The length of a question before its octets: its number, five parameters and two lengths.
@@ -9,7 +9,7 @@ pub const QUESTION_LENGTH: usize = 49;
 
 // How many octets the question at the start of an input takes; 0 where no whole question stands there.
 pub fn question_length(input: &[u8]) -> usize
-    ensures { λ r. ⌜ r ≤ length (now (input .entry)) ⌝ }
+    ensures { λ r. ⌜ r ≡ questionLength (now (input .entry)) ⌝ }
 {
     if input.len() < QUESTION_LENGTH {
         return 0;
