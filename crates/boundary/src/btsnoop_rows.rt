@@ -3,7 +3,7 @@ ghost use mathlib.Core.Path.{_≡_};
 ghost use Rattle.btsnoop.specs.Says.{headerSays, recordSays};
 ghost use Rattle.btsnoop_survey.specs.Says.{surveySays, fileSays};
 ghost use Rattle.btsnoop_earlier.specs.Says.{captureSays, earlierSays};
-ghost use Rattle.btsnoop_write.specs.Says.{writeSays};
+ghost use Rattle.refusals.specs.Says.{writeSays};
 ghost use Rattle.boundary.specs.Rows.{headerRow, fileRow, recordRow, surveyRow, earlierRow, writtenRow};
 use crate::Earlier;
 use crate::File;
@@ -17,7 +17,7 @@ use btsnoop_earlier::Capture;
 use btsnoop_earlier::EarlierAnswer;
 use btsnoop_survey::FileAnswer;
 use btsnoop_survey::SurveyAnswer;
-use btsnoop_write::WriteAnswer;
+use refusals::WriteAnswer;
 
 pub fn header(answer: HeaderAnswer) -> Header
     ensures { λ r. ⌜ r ≡ headerRow (headerSays answer) ⌝ }

@@ -5,17 +5,12 @@ use mathlib.Core.List.{List, _++_}
 use lib.ListN.{length}
 use lib.IntN.{ℤ}
 use lib.Dec.{leb}
-use Rattle.refusals.specs.Refusals.{Answer, refused, given, datalink, includedLength, noRoom}
+use Rattle.refusals.specs.Refusals.{Answer, refused, given, afterWrite, datalink, includedLength, noRoom}
 use Rattle.octets.specs.Numbers.{big, octetsOf}
 use Rattle.octets.specs.Signed.{unsigned}
 use Rattle.octets.specs.Parts.{splice, hasRoom}
 use Rattle.btsnoop_rules.specs.Header.{headerLength, identificationOctets, versionNumber, served}
 use Rattle.btsnoop_rules.specs.Record.{recordLength}
-
--- an output after a write: changed where the write is accepted, as it was where it is refused
-abbrev pub afterWrite : Answer ℕ → List ℕ → List ℕ → List ℕ
-afterWrite (refused n q) before written = before
-afterWrite (given next) before written = written
 
 -- the octets of a file header with a datalink code
 unfoldable pub headerOctets : ℕ → List ℕ

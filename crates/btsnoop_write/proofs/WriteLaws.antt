@@ -8,7 +8,7 @@ use lib.ListN.{length, length-append}
 use lib.IntN.{ℤ}
 use borrow.Author.Tests.{le-leb, lt-leb}
 use native.Mathlib.Omega.{arith}
-use Rattle.refusals.specs.Refusals.{Answer, refused, given, datalink, includedLength, noRoom}
+use Rattle.refusals.specs.Refusals.{Answer, refused, given, datalink, includedLength, noRoom, afterWrite}
 use Rattle.octets.specs.Numbers.{big, octetsOf}
 use Rattle.octets.specs.Signed.{unsigned}
 use Rattle.octets.specs.Parts.{splice, put}
@@ -16,7 +16,7 @@ use Rattle.octets.proofs.Laws.{written}
 use Rattle.octets.proofs.PartLaws.{put-room, length-splice, splice-splice}
 use Rattle.btsnoop_rules.specs.Header.{headerLength, served}
 use Rattle.btsnoop_rules.specs.Record.{recordLength}
-use Rattle.btsnoop_rules.specs.Writing.{afterWrite, headerOctets, headerWriting, headerWritten, recordOctets, recordWriting, recordWritten}
+use Rattle.btsnoop_rules.specs.Writing.{headerOctets, headerWriting, headerWritten, recordOctets, recordWriting, recordWritten}
 
 -- how many octets a field has
 pub number-long : (w n : ℕ) → length (octetsOf big w n) ≡ w

@@ -3,21 +3,14 @@ ghost use mathlib.Core.Path.{_≡_};
 ghost use mathlib.Core.List.{_++_};
 ghost use Prim.Native.Nat.{_+_, _≤_};
 ghost use lib.ListN.{length};
-ghost use Rattle.refusals.specs.Refusals.{refused as Refused};
 ghost use Rattle.octets.specs.Numbers.{big, octetsOf};
 ghost use Rattle.octets.specs.Signed.{unsigned};
 ghost use Rattle.octets.specs.Parts.{splice};
 ghost use Rattle.btsnoop_rules.specs.Writing.{headerOctets, headerWriting, headerWritten, recordWriting, recordWritten};
-ghost use Rattle.btsnoop_write.specs.Says.{writeSays};
+ghost use Rattle.refusals.specs.Says.{writeSays};
 use btsnoop::HEADER_LENGTH;
 use btsnoop::RECORD_LENGTH;
-use refusals::Refusal;
-
-// What a writer answers: the refusal, or the place after what was written.
-pub enum WriteAnswer {
-    Refused(Refusal),
-    Written(usize),
-}
+use refusals::WriteAnswer;
 
 // Writes a file header with a datalink code.
 pub fn header(out: &mut [u8], place: usize, datalink: u32) -> WriteAnswer
@@ -25,10 +18,10 @@ pub fn header(out: &mut [u8], place: usize, datalink: u32) -> WriteAnswer
     ensures { λ _. ⌜ now (out .exit) ≡ headerWritten (now (out .entry)) place datalink ⌝ }
 {
     if !btsnoop::header::served(datalink) {
-        return refused(refusals::DATALINK);
+        return refusals::write_refused(refusals::DATALINK);
     }
     if !octets_put::has_room(out.len(), place, HEADER_LENGTH) {
-        return refused(refusals::NO_ROOM);
+        return refusals::write_refused(refusals::NO_ROOM);
     }
     header_octets(out, place, datalink);
     WriteAnswer::Written(place + HEADER_LENGTH)
@@ -59,11 +52,11 @@ pub fn record(
 {
     let original_length = original as usize;
     if original_length < packet.len() {
-        return refused(refusals::INCLUDED_LENGTH);
+        return refusals::write_refused(refusals::INCLUDED_LENGTH);
     }
     let size = RECORD_LENGTH + packet.len();
     if !octets_put::has_room(out.len(), place, size) {
-        return refused(refusals::NO_ROOM);
+        return refusals::write_refused(refusals::NO_ROOM);
     }
     lengths(out, place, original, packet.len() as u32);
     marks(out, place + 8, flags, drops, time);
@@ -88,11 +81,4 @@ fn marks(out: &mut [u8], place: usize, flags: u32, drops: u32, time: i64)
     octets_put::put_be32(out, place, flags);
     octets_put::put_be32(out, place + 4, drops);
     octets_put::put_be64(out, place + 8, twos_complement::unsigned64(time));
-}
-
-// A writer's refusal, always at place 0.
-fn refused(number: u32) -> WriteAnswer
-    ensures { λ r. ⌜ writeSays r ≡ Refused number 0 ⌝ }
-{
-    WriteAnswer::Refused(Refusal { number, place: 0 })
 }

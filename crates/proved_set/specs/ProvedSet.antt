@@ -11,7 +11,7 @@ use Rattle.btsnoop_rules.specs.Drops.{dropsBetween}
 use Rattle.capture_time.specs.Time.{CaptureTime, unixEpoch, reading}
 use Rattle.radiotap_rules.specs.Reading as Radiotap
 use Rattle.radiotap_rules.specs.Reading.{fieldPast, Field, Ending, ended, stopped, Reading, refusedBefore, refusedAtField, read}
-use Rattle.radiotap_rules.specs.Table.{rules123}
+use Rattle.radiotap_rules.specs.Table.{ourRules}
 
 -- what an example asks: octets as a BTSnoop file, a record's time field, the drops of two records, octets as a radiotap
 -- header in an edition
@@ -43,7 +43,7 @@ pub data Reply : Type 0 where
   radiotap : Answer Starts → Reply
 
 abbrev pub reading123 : (edition : ℕ) → List ℕ → Reading
-reading123 edition s = Radiotap.reading rules123 edition s
+reading123 edition s = Radiotap.reading ourRules edition s
 
 abbrev pub replyTo : Question → Reply
 replyTo (asFile s) = file (fileAt s)

@@ -7,13 +7,13 @@ use mathlib.Core.Logic.{inl, inr}
 use mathlib.Core.List.{List, [], _∷_, _++_}
 use native.Mathlib.Omega.{arith}
 use native.Mathlib.Decide.{decLt}
-use lib.ListN.{length, drop}
+use lib.ListN.{length}
 use lib.Dec.{leb}
 use borrow.Author.Tests.{leb-true, le-leb}
 use Rattle.radiotap_rules.specs.Rules.{Row, Rules, rowOf, knows, editionTaken, served}
-use Rattle.radiotap_rules.specs.Reading.{wordAt, bitAt, Meaning, nothing, unknownHere, field, meaning, Field, Ending, ended, stopped, Walk, refusedAt, shown, withField, onField, onMeaning, fieldsFrom, Reading, refusedBefore, refusedAtField, read, readWalk, reading, noField, nth}
+use Rattle.radiotap_rules.specs.Reading.{wordAt, bitAt, Meaning, nothing, unknownHere, field, meaning, Field, Ending, ended, stopped, Walk, refusedAt, shown, withField, onField, onMeaning, fieldsFrom, Reading, refusedBefore, refusedAtField, read, frameOf, readWalk, reading, noField, nth}
 use Rattle.radiotap_rules.proofs.Walks.{fieldAt, on-field, by-meaning, by-walks}
-use Rattle.radiotap_rules.specs.Table.{rules123}
+use Rattle.radiotap_rules.specs.Table.{ourRules}
 use Rattle.radiotap_rules.specs.Editions.{Older, NotAfter, Shows, Agree, Demand3}
 
 -- a newer edition knows what an older one knows
@@ -194,7 +194,7 @@ agree-walks s size (stopsBy {fs} {w} {b} {w′} {b′} {p} h) =
             fields = fs;
             stopWord = w;
             stopBit = b;
-            frame = drop size s;
+            frame = frameOf s size;
             older = refl;
             notAfter = subst₂ (NotAfter w b) (cc) (cc) h;
           });
@@ -217,6 +217,6 @@ demand-3 rules older newer s ok servedOlder servedNewer l =
     n = editionTaken (rules .readingDefault) newer
 
 -- demand 3 for the table of document 01, which passes the test
-pub agree-123 : (older newer : ℕ) (s : List ℕ) → served rules123 older ≡ true → served rules123 newer ≡ true
-    → Older rules123 older newer → Agree (reading rules123 older s) (reading rules123 newer s)
-agree-123 older newer s = demand-3 rules123 older newer s refl
+pub agree-ours : (older newer : ℕ) (s : List ℕ) → served ourRules older ≡ true → served ourRules newer ≡ true
+    → Older ourRules older newer → Agree (reading ourRules older s) (reading ourRules newer s)
+agree-ours older newer s = demand-3 ourRules older newer s refl

@@ -1,7 +1,12 @@
+pub mod Meanings
 pub mod Walks
+pub mod Words
+pub mod Steps
 pub mod Agreement
 pub mod Tables
 pub mod Places
 pub mod Planning
+pub mod Following
 pub mod ReadBack
+pub mod Unstopped
 pub mod Rewriting

@@ -12,7 +12,7 @@ use Rattle.refusals.specs.Refusals.{Answer, refused, given}
 use Rattle.octets.specs.Parts.{part}
 use Rattle.octets.proofs.PartLaws.{length-part}
 use Rattle.radiotap_rules.specs.Rules.{Rules, rowOf, knows, editionTaken, served}
-use Rattle.radiotap_rules.specs.Reading.{fixedLength, lengthIn, fixedHeader, bitAt, Meaning, nothing, unknownHere, field, meaning, Field, Ending, Walk, refusedAt, shown, withField, onMeaning, fieldsFrom, Reading, refusedBefore, refusedAtField, read, readWalk, reading, theField, nth}
+use Rattle.radiotap_rules.specs.Reading.{fixedLength, lengthIn, fixedHeader, bitAt, Meaning, nothing, unknownHere, field, meaning, Field, Walk, refusedAt, shown, withField, onMeaning, fieldsFrom, Reading, refusedBefore, refusedAtField, read, readWalk, reading}
 use Rattle.radiotap_rules.specs.Fields.{Lies, AllLie, Inside, FieldsInside}
 use Rattle.radiotap_rules.proofs.Walks.{fieldAt, on-field, by-meaning, by-walks}
 

@@ -47,18 +47,23 @@ known-from rules edition n e =
     let both = and-eq-true-iff (leb 1 (rowOf rules n .first)) (leb (rowOf rules n .first) edition) .0 e in
     (leb-true _ _ (both .0), leb-true _ _ (both .1))
 
-planned-aligned : (rules : Rules) (edition word left q : ℕ) → tableOk rules ≡ true → Aligned (planFrom rules edition word left q)
-planned-aligned rules edition word zero q ok = tt
-planned-aligned rules edition word (suc left) q ok = go (planFrom rules edition word left (suc q)) (planned-aligned rules edition word left (suc q) ok)
+-- under a table that passes the test, a field that an edition knows has an alignment above 0
+pub known-aligned : (rules : Rules) (edition n : ℕ) → tableOk rules ≡ true → knows rules edition n ≡ true
+    → 0 < rowOf rules n .alignment
+known-aligned rules edition n ok known =
+    row-aligned (rules .newest) (rules .rows) n (first _ _ _ _ _ _ ok) (known-from rules edition n known .0)
   where
     first : (a b c d e f : Bool) → (a && b && c && d && e && f) ≡ true → a ≡ true
     first true b c d e f h = refl
     first false b c d e f h = h
 
+planned-aligned : (rules : Rules) (edition word left q : ℕ) → tableOk rules ≡ true → Aligned (planFrom rules edition word left q)
+planned-aligned rules edition word zero q ok = tt
+planned-aligned rules edition word (suc left) q ok = go (planFrom rules edition word left (suc q)) (planned-aligned rules edition word left (suc q) ok)
+  where
     known : (k : Bool) (ps : List Planned) → knows rules edition (bitAt q) ≡ k → Aligned ps
         → Aligned (withPlan q (cond k (field (rowOf rules (bitAt q))) unknownHere) ps)
-    known true ps e rest =
-        (row-aligned (rules .newest) (rules .rows) (bitAt q) (first _ _ _ _ _ _ ok) (known-from rules edition (bitAt q) e .0), rest)
+    known true ps e rest = (known-aligned rules edition (bitAt q) ok e, rest)
     known false ps e rest = rest
 
     go : (ps : List Planned) → Aligned ps → Aligned (withPlan q (meaning rules edition (word ∷ []) q) ps)

@@ -1,7 +1,7 @@
 -- A header with one presence word, read without a stop and written again: when its octets come out unchanged.
 -- Assumes nothing.
-use Prim.Native.Nat.{ℕ, _+_, _-_, _≤_, _<_}
-use mathlib.Core.Path.{_≡_, refl, sym, ap, _∙_}
+use Prim.Native.Nat.{ℕ, _+_, _-_, _^_, _≤_, _<_}
+use mathlib.Core.Path.{_≡_, refl, sym, ap, _∙_, subst}
 use mathlib.Core.Bool.{Bool, true, false, cond, _&&_, and-eq-true-iff}
 use mathlib.Core.Logic.{_↔_}
 use mathlib.Core.List.{List, [], _∷_, _++_, append-cancel-left}
@@ -10,16 +10,19 @@ use native.Mathlib.Nat.{sub-self}
 use lib.ListN.{length, getD, take, drop, replicate, length-append, length-replicate, getD-replicate}
 use lib.Seq.{take-at, drop-at, take-add, drop-drop, getD-take, getD-drop, ext-getD}
 use lib.Dec.{leb, ltb, eqb}
-use borrow.Author.Tests.{leb-true, eqb-true}
+use borrow.Author.Tests.{leb-true, le-leb, eqb-true, eq-eqb, ne-eqb}
 use Rattle.refusals.specs.Refusals.{Answer, refused, given, shortHeader}
 use Rattle.octets.specs.Numbers.{little, octetsOf, octetsAt, numberAt, Octets}
-use Rattle.octets.specs.Parts.{part}
-use Rattle.octets.proofs.Laws.{write-after-read, octets-take, octets-drop}
+use Rattle.octets.specs.Parts.{part, splice}
+use Rattle.octets.proofs.Laws.{write-after-read, range, octets-append, octets-take, octets-drop}
 use Rattle.octets.proofs.PartLaws.{length-part, octets-part}
-use Rattle.radiotap_rules.specs.Rules.{Rules, tableOk, editionTaken, served}
-use Rattle.radiotap_rules.specs.Reading.{wordPast, editionAbove, fixedLength, lengthIn, fixedHeader, bitSet, withWord, wordsFrom, presenceWords, aligned, Field, ended, stopped, Walk, refusedAt, shown, Reading, refusedBefore, fieldsOf, readWalk, readWords, readFixed, reading, read}
-use Rattle.radiotap_rules.specs.Writing.{writable, Planned, plan, summed, laid, headerOctets}
-use Rattle.radiotap_rules.specs.Rewriting.{joined, GapsZero, lastEnd, OneWord, RewritesItself}
+use Rattle.radiotap_rules.specs.Rules.{Rules, rowsOk, noneKnows, tableOk, editionTaken, served}
+use Rattle.radiotap_rules.specs.Reading.{fixedLength, lengthIn, fixedHeader, presenceWords, aligned, Field, ended, Walk, shown, fieldsOf}
+use Rattle.radiotap_rules.specs.Writing.{writable, Planned, plan, summed, laid, headerOctets, writing, written}
+use Rattle.radiotap_rules.specs.Rewriting.{Writable, joined, GapsZero, lastEnd, OneWord, RewritesItself}
+use Rattle.radiotap_rules.proofs.Walks.{read-served, read-shown}
+use Rattle.radiotap_rules.proofs.Words.{words-at, last-calls-none}
+use Rattle.radiotap_rules.proofs.Unstopped.{walk-writable}
 use Rattle.radiotap_rules.proofs.Places.{length-inside}
 use Rattle.radiotap_rules.proofs.Planning.{Aligned, aligned-after, plan-aligned, end-after, length-laid, plannedFields, WalkedTo, walked}
 
@@ -145,21 +148,7 @@ fixed-back s size e =
 
 -- where one presence word is given, it is the number at the first word's place
 word-back : (s : List ℕ) (size word : ℕ) → presenceWords s size ≡ given (word ∷ []) → numberAt little 4 s 4 ≡ word
-unfolding presenceWords
-word-back s size word = go (bitSet (numberAt little 4 s 4) 31) (leb 12 size) (wordsFrom s size 8 6)
-  where
-    go : (a b : Bool) (x : Answer (List ℕ))
-        → elim a [
-          | true ↦ elim b [
-            | true ↦ withWord (numberAt little 4 s 4) x
-            | false ↦ refused wordPast 4
-          ]
-          | false ↦ given (numberAt little 4 s 4 ∷ [])
-        ] ≡ given (word ∷ []) → numberAt little 4 s 4 ≡ word
-    go true true (refused n q) e = let z : _≡_ {A = ℕ} 0 1 = cc in absurd (omega arith)
-    go true true (given ws) e = cc
-    go true false x e = let z : _≡_ {A = ℕ} 0 1 = cc in absurd (omega arith)
-    go false b x e = cc
+word-back s size word e = sym (words-at s size (word ∷ []) e 0 (omega arith))
 
 -- octets read one by one are octets
 octets-at : (s : List ℕ) (at n : ℕ) → at + n ≤ length s → Octets s → Octets (octetsAt s at n)
@@ -186,60 +175,162 @@ header-back s size word o header words =
     ∙ ap (λ (l : List ℕ). l ++ rest) (sym front)
     ∙ rw (fixed .version, two, four)
 
--- a walk that is read to its end shows the planned fields, which end inside the length
-read-planned : (s : List ℕ) (size at : ℕ) (ps : List Planned) (known : Bool) (x : Walk) (fs : List Field) (frame : List ℕ)
-    → WalkedTo s size at ps known x → readWalk s size x ≡ read fs ended frame
-    → (fs ≡ plannedFields s at ps) × (lastEnd at ps ≤ size)
-read-planned s size at ps known (refusedAt w b p) fs frame h e = let z : _≡_ {A = ℕ} 0 1 = cc in absurd (omega arith)
-read-planned s size at ps known (shown fs′ ended) fs frame h e = let same : fs ≡ fs′ = cc in (same ∙ h .0, h .1)
-read-planned s size at ps known (shown fs′ (stopped w b)) fs frame h e = let z : _≡_ {A = ℕ} 0 1 = cc in absurd (omega arith)
+-- a walk to the end shows the planned fields, which end inside the length
+walk-planned : (s : List ℕ) (size at : ℕ) (ps : List Planned) (known : Bool) (x : Walk) (fs : List Field)
+    → WalkedTo s size at ps known x → x ≡ shown fs ended → (fs ≡ plannedFields s at ps) × (lastEnd at ps ≤ size)
+walk-planned s size at ps known x fs h e = subst (WalkedTo s size at ps known) e h
 
--- the fields of such a header are the planned ones
-one-word-planned : (rules : Rules) (edition : ℕ) (s : List ℕ) (size word : ℕ) (fs : List Field) (frame : List ℕ) → tableOk rules ≡ true
-    → OneWord rules edition s size word fs frame
-    → let ps = plan rules (editionTaken (rules .readingDefault) edition) word in
-    (fs ≡ plannedFields s fixedLength ps) × (lastEnd fixedLength ps ≤ size)
-unfolding reading
-one-word-planned rules edition s size word fs frame ok one =
-    read-planned s size fixedLength (plan rules e word) (writable rules e word) (fieldsOf rules e s size (word ∷ [])) fs frame
-    (walked rules e s size word ok (fixed-back s size (one .header) .low))
-    (sym (ap (readFixed rules e s) (one .header) ∙ ap (readWords rules e s size) (one .words)) ∙ go (served rules edition) (one .whole))
+-- the octets of planned fields are octets of the input
+octets-planned : (s : List ℕ) (at : ℕ) (ps : List Planned) → Octets s → Octets (joined (plannedFields s at ps))
+unfolding part
+octets-planned s at [] o = tt
+octets-planned s at (p ∷ ps) o =
+    let place : ℕ = aligned (p .row .alignment) at in
+    octets-append (take (p .row .size) (drop place s)) (joined (plannedFields s (place + p .row .size) ps))
+    (octets-take (p .row .size) (drop place s) (octets-drop place s o)) (octets-planned s (place + p .row .size) ps o)
+
+-- a table that passes the test serves its reading default
+default-served : (rules : Rules) → tableOk rules ≡ true → (1 ≤ rules .readingDefault) × (rules .readingDefault ≤ rules .newest)
+default-served rules ok = go (rowsOk (rules .newest) (rules .rows)) (noneKnows rules (18 ∷ 29 ∷ 30 ∷ 31 ∷ [])) _ _ ok
   where
-    e : ℕ
-    e = editionTaken (rules .readingDefault) edition
+    go : (a b e f : Bool)
+        → (a && b && leb 1 (rules .readingDefault) && leb (rules .readingDefault) (rules .newest) && e && f) ≡ true
+        → (1 ≤ rules .readingDefault) × (rules .readingDefault ≤ rules .newest)
+    go a b e f h =
+        let low : Bool = leb 1 (rules .readingDefault) in
+        let high : Bool = leb (rules .readingDefault) (rules .newest) in
+        let four = and-eq-true-iff (a && b && low && high) e .0 (and-eq-true-iff (a && b && low && high && e) f .0 h .0) .0 in
+        let three = and-eq-true-iff (a && b && low) high .0 four in
+        (leb-true _ _ (and-eq-true-iff (a && b) low .0 (three .0) .1), leb-true _ _ (three .1))
 
-    go : (t : Bool) {x : Reading} → cond t x (refusedBefore editionAbove 0) ≡ read fs ended frame → x ≡ read fs ended frame
-    go true h = h
-    go false h = let z : _≡_ {A = ℕ} 0 1 = cc in absurd (omega arith)
+-- what reading takes a served edition for is then served too, and writing takes it for itself
+taken-served : (rules : Rules) (edition : ℕ) → tableOk rules ≡ true → served rules edition ≡ true
+    → let e = editionTaken (rules .readingDefault) edition in
+    (served rules e ≡ true) × (editionTaken (rules .writingDefault) e ≡ e)
+taken-served rules edition ok servedHere = go (eqb edition 0) refl (default-served rules ok)
+  where
+    go : (t : Bool) → eqb edition 0 ≡ t → (1 ≤ rules .readingDefault) × (rules .readingDefault ≤ rules .newest)
+        → (served rules (cond t (rules .readingDefault) edition) ≡ true)
+        × (editionTaken (rules .writingDefault) (cond t (rules .readingDefault) edition) ≡ cond t (rules .readingDefault) edition)
+    go true e default =
+        (le-leb _ _ (default .1), rw (ne-eqb (rules .readingDefault) 0 (λ z. omega (arith, default .0))))
+    go false e default = (servedHere, rw e)
 
--- a header with one presence word, read without a stop, is written again to its own octets exactly when its pad octets
--- are all 0 and its length ends at the last field
-pub rewrites-itself : RewritesItself
+-- the octets of a header are as many as its length says
+length-header : (rules : Rules) (edition word : ℕ) (values : List ℕ)
+    → length (headerOctets rules edition word values) ≡ fixedLength + length (laid (plan rules edition word) fixedLength values)
 unfolding headerOctets octetsOf
+length-header rules edition word values = omega arith
+
+-- the writer's answer and output, where it serves the edition as itself and accepts the word and the values
+module _ (rules : Rules) (edition word : ℕ) (values : List ℕ) (serves : served rules edition ≡ true)
+    (itself : editionTaken (rules .writingDefault) edition ≡ edition) (w : Writable rules edition word values) where
+  accepted : (room at : ℕ) → at + length (headerOctets rules edition word values) ≤ room
+      → writing rules room at edition word values ≡ given (at + length (headerOctets rules edition word values))
+  unfolding writing
+  accepted room at h =
+      rw (
+        serves,
+        itself,
+        w .known,
+        eq-eqb (length values) (summed (plan rules edition word)) (w .long),
+        le-leb (at + length (headerOctets rules edition word values)) room h,
+      )
+
+  accepted-output : (out : List ℕ) (at : ℕ) → at + length (headerOctets rules edition word values) ≤ length out
+      → written rules out at edition word values ≡ splice out at (headerOctets rules edition word values)
+  unfolding written
+  accepted-output out at h = rw (accepted (length out) at h, itself)
+
+module _ (rules : Rules) (edition : ℕ) (s : List ℕ) (size word : ℕ) (fs : List Field) (frame : List ℕ) (ok : tableOk rules ≡ true)
+    (o : Octets s) (one : OneWord rules edition s size word fs frame) where
+  -- what reading takes the edition for
+  abbrev taken : ℕ
+  taken = editionTaken (rules .readingDefault) edition
+
+  -- what is read ends without a stop
+  ends : fieldsOf rules taken s size (word ∷ []) ≡ shown fs ended
+  ends = read-shown rules edition s size (word ∷ []) fs ended frame (one .header) (one .words) (one .whole)
+
+  -- the fields are the planned ones and end inside the length
+  planned : (fs ≡ plannedFields s fixedLength (plan rules taken word)) × (lastEnd fixedLength (plan rules taken word) ≤ size)
+  planned =
+      walk-planned s size fixedLength (plan rules taken word) (writable rules taken word) (fieldsOf rules taken s size (word ∷ [])) fs
+      (walked rules taken s size word ok (fixed-back s size (one .header) .low)) ends
+
+  -- the values that are written
+  abbrev values : List ℕ
+  values = joined (plannedFields s fixedLength (plan rules taken word))
+
+  -- the octets that are written reach to where the last field ends
+  header-ends : length (headerOctets rules taken word values) ≡ lastEnd fixedLength (plan rules taken word)
+  header-ends =
+      let ps : List Planned = plan rules taken word in
+      let a : Aligned ps = plan-aligned rules taken word ok in
+      let input : size ≤ length s = length-inside s size (one .header) in
+      let summedUp = length-values s fixedLength ps a (omega (arith, planned .1)) in
+      length-header rules taken word values ∙ length-laid fixedLength ps values a (omega arith)
+
+  -- the writer accepts the word and the values
+  accepts : Writable rules taken word values
+  unfolding numberAt
+  accepts =
+      let input : size ≤ length s = length-inside s size (one .header) in
+      let fixed = fixed-back s size (one .header) in
+      let low : fixedLength ≤ size = fixed .low in
+      let last : lastEnd fixedLength (plan rules taken word) ≤ size = planned .1 in
+      let short : lengthIn s < 256 ^ 2 = range little (octetsAt s 2 2) (octets-at s 2 2 (omega arith) o) in
+      record {
+        known = walk-writable rules taken s size word fs (one .clear) (last-calls-none s size (word ∷ []) (one .words)) ends;
+        long = length-values s fixedLength (plan rules taken word) (plan-aligned rules taken word ok) (omega arith);
+        word32 = rw (← word-back s size word (one .words)) (range little (octetsAt s 4 4) (octets-at s 4 4 (omega arith) o));
+        octets = octets-planned s fixedLength (plan rules taken word) o;
+        short = omega (arith, header-ends, fixed .sized);
+      }
+
+  -- its octets are the header's own exactly when the pad octets are all 0 and the length ends at the last field
+  own-octets : (headerOctets rules taken word values ≡ take size s)
+      ↔ ((getD s 1 0 ≡ 0)
+      × GapsZero s fixedLength (plan rules taken word)
+      × (size ≡ lastEnd fixedLength (plan rules taken word)))
+  unfolding headerOctets octetsOf
+  own-octets =
+      let ps : List Planned = plan rules taken word in
+      let a : Aligned ps = plan-aligned rules taken word ok in
+      let last : lastEnd fixedLength ps ≤ size = planned .1 in
+      let input : size ≤ length s = length-inside s size (one .header) in
+      let low : fixedLength ≤ size = fixed-back s size (one .header) .low in
+      let xs : List ℕ = laid ps fixedLength values in
+      let summedUp = length-values s fixedLength ps a (omega arith) in
+      let ends : fixedLength + length xs ≡ lastEnd fixedLength ps = length-laid fixedLength ps values a (omega arith) in
+      let own = laid-own s fixedLength ps a (omega arith) in
+      let rest : List ℕ = part s fixedLength (size - fixedLength) in
+      let long : length rest ≡ size - fixedLength = length-part s fixedLength (size - fixedLength) (omega arith) in
+      let head = header-back s size word o (one .header) (one .words) in (
+        λ e.
+            let whole = e ∙ head in
+            let pad : 0 ≡ getD s 1 0 = ap (λ (l : List ℕ). getD l 1 0) whole in
+            let same : xs ≡ rest = ap (drop fixedLength) whole in
+            let sized : size ≡ lastEnd fixedLength ps = omega (arith, ap length same) in
+            (sym pad, own .0 (same ∙ ap (λ (n : ℕ). part s fixedLength (n - fixedLength)) sized), sized),
+        λ h.
+            let same : xs ≡ rest = own .1 (h .1) ∙ ap (λ (n : ℕ). part s fixedLength (n - fixedLength)) (sym (h .2)) in
+            let sized : fixedLength + length xs ≡ size = omega arith in
+            rw (sized, same, head, h .0),
+      )
+
+-- a header with one presence word, read without a stop, is written again in the same edition wherever there is room, and to
+-- its own octets exactly when its pad octets are all 0 and its length ends at the last field
+pub rewrites-itself : RewritesItself
 rewrites-itself rules edition s size word fs frame ok o one =
-    let ps : List Planned = plan rules (editionTaken (rules .readingDefault) edition) word in
-    let a : Aligned ps = plan-aligned rules (editionTaken (rules .readingDefault) edition) word ok in
-    let fields = one-word-planned rules edition s size word fs frame ok one in
-    let last : lastEnd fixedLength ps ≤ size = fields .1 in
-    let input : size ≤ length s = length-inside s size (one .header) in
-    let low : fixedLength ≤ size = fixed-back s size (one .header) .low in
-    let values : List ℕ = joined (plannedFields s fixedLength ps) in
-    let xs : List ℕ = laid ps fixedLength values in
-    let summedUp = length-values s fixedLength ps a (omega arith) in
-    let ends : fixedLength + length xs ≡ lastEnd fixedLength ps = length-laid fixedLength ps values a (omega arith) in
-    let own = laid-own s fixedLength ps a (omega arith) in
-    let rest : List ℕ = part s fixedLength (size - fixedLength) in
-    let long : length rest ≡ size - fixedLength = length-part s fixedLength (size - fixedLength) (omega arith) in
-    let head = header-back s size word o (one .header) (one .words) in
-    rw (fields .0) (
-      λ e.
-          let whole = e ∙ head in
-          let pad : 0 ≡ getD s 1 0 = ap (λ (l : List ℕ). getD l 1 0) whole in
-          let same : xs ≡ rest = ap (drop fixedLength) whole in
-          let sized : size ≡ lastEnd fixedLength ps = omega (arith, ap length same) in
-          (sym pad, own .0 (same ∙ ap (λ (n : ℕ). part s fixedLength (n - fixedLength)) sized), sized),
-      λ h.
-          let same : xs ≡ rest = own .1 (h .1) ∙ ap (λ (n : ℕ). part s fixedLength (n - fixedLength)) (sym (h .2)) in
-          let sized : fixedLength + length xs ≡ size = omega arith in
-          rw (sized, same, head, h .0),
-    )
+    let both = taken-served rules edition ok (read-served rules edition s fs ended frame (one .whole)) in
+    let w = accepts rules edition s size word fs frame ok o one in
+    rw (planned rules edition s size word fs frame ok o one .0)
+    (record {
+      serves = both .0;
+      itself = both .1;
+      accepts = w;
+      answer = accepted rules _ word _ (both .0) (both .1) w;
+      output = accepted-output rules _ word _ (both .0) (both .1) w;
+      own = own-octets rules edition s size word fs frame ok o one;
+    })

@@ -1,5 +1,5 @@
 -- What holds of writing and reading a header together. Proofs: proofs/ReadBack.antt, proofs/Rewriting.antt.
-use Prim.Native.Nat.{ℕ, _+_, _-_, _^_, _≤_, _<_}
+use Prim.Native.Nat.{ℕ, _+_, _^_, _≤_, _<_}
 use mathlib.Core.Path.{_≡_}
 use mathlib.Core.Bool.{true, false}
 use mathlib.Core.Logic.{_↔_}
@@ -7,10 +7,10 @@ use mathlib.Core.List.{List, [], _∷_, _++_}
 use lib.ListN.{length, take, getD}
 use Rattle.refusals.specs.Refusals.{given}
 use Rattle.octets.specs.Numbers.{Octets}
-use Rattle.octets.specs.Parts.{part}
+use Rattle.octets.specs.Parts.{splice}
 use Rattle.radiotap_rules.specs.Rules.{Rules, tableOk, editionTaken, served}
 use Rattle.radiotap_rules.specs.Reading.{fixedLength, fixedHeader, presenceWords, bitSet, aligned, Field, ended, reading, read}
-use Rattle.radiotap_rules.specs.Writing.{Planned, writable, plan, summed, laid, laidFields, headerOctets}
+use Rattle.radiotap_rules.specs.Writing.{Planned, writable, plan, summed, laidFields, headerOctets, writing, written}
 
 -- what a writer accepts in an edition: a word whose fields it knows, with values of the summed length
 pub record Writable (rules : Rules) (edition word : ℕ) (values : List ℕ) : Type 0 where
@@ -52,11 +52,25 @@ pub record OneWord (rules : Rules) (edition : ℕ) (s : List ℕ) (size word : �
   pub clear : bitSet word 29 ≡ false
   pub whole : reading rules edition s ≡ read fs ended frame
 
--- such a header is rewritten in the same edition to its own octets exactly when its pad octets are all 0 and its length
--- ends at the last field. The edition is what reading takes it for.
+-- a header of so many octets rewritten in an edition, from its presence word and its fields' values
+pub record Rewritten (rules : Rules) (edition : ℕ) (s : List ℕ) (size word : ℕ) (values : List ℕ) : Type 0 where
+  -- writing serves the edition and takes it for itself
+  pub serves : served rules edition ≡ true
+  pub itself : editionTaken (rules .writingDefault) edition ≡ edition
+  -- the writer accepts the word and the values wherever there is room, and puts the octets there
+  pub accepts : Writable rules edition word values
+  pub answer : (room at : ℕ) → at + length (headerOctets rules edition word values) ≤ room
+      → writing rules room at edition word values ≡ given (at + length (headerOctets rules edition word values))
+  pub output : (out : List ℕ) (at : ℕ) → at + length (headerOctets rules edition word values) ≤ length out
+      → written rules out at edition word values ≡ splice out at (headerOctets rules edition word values)
+  -- these are the header's own octets exactly when its pad octets are all 0 and its length ends at the last field
+  pub own : (headerOctets rules edition word values ≡ take size s)
+      ↔ ((getD s 1 0 ≡ 0)
+      × GapsZero s fixedLength (plan rules edition word)
+      × (size ≡ lastEnd fixedLength (plan rules edition word)))
+
+-- such a header is rewritten so in the same edition, which is what reading takes the edition for
 abbrev pub RewritesItself : Type 0
 RewritesItself = (rules : Rules) (edition : ℕ) (s : List ℕ) (size word : ℕ) (fs : List Field) (frame : List ℕ) → tableOk rules ≡ true
     → Octets s → OneWord rules edition s size word fs frame
-    → let e = editionTaken (rules .readingDefault) edition in
-    (headerOctets rules e word (joined fs) ≡ take size s)
-    ↔ ((getD s 1 0 ≡ 0) × GapsZero s fixedLength (plan rules e word) × (size ≡ lastEnd fixedLength (plan rules e word)))
+    → Rewritten rules (editionTaken (rules .readingDefault) edition) s size word (joined fs)

@@ -2,8 +2,8 @@
 use mathlib.Core.List.{List, [], _∷_}
 use Rattle.radiotap_rules.specs.Rules.{Row, row, unknown, Rules}
 
-abbrev pub rows123 : List Row
-rows123 =
+abbrev pub ourRows : List Row
+ourRows =
     row 8 8 1  -- 0: TSFT
     ∷ row 1 1 1  -- 1: flags
     ∷ row 1 1 1  -- 2: rate
@@ -39,5 +39,5 @@ rows123 =
     ∷ []
 
 -- editions 1 to 3; edition 0 asks for edition 1
-abbrev pub rules123 : Rules
-rules123 = record { rows = rows123; readingDefault = 1; writingDefault = 1; newest = 3 }
+abbrev pub ourRules : Rules
+ourRules = record { rows = ourRows; readingDefault = 1; writingDefault = 1; newest = 3 }

@@ -4,7 +4,7 @@ use mathlib.Core.Bool.{Bool, true, false, cond, _&&_}
 use mathlib.Core.List.{List, [], _∷_, _++_}
 use lib.ListN.{length, take, drop, replicate}
 use lib.Dec.{leb, eqb}
-use Rattle.refusals.specs.Refusals.{Answer, refused, given, noRoom}
+use Rattle.refusals.specs.Refusals.{Answer, refused, given, afterWrite, noRoom}
 use Rattle.octets.specs.Numbers.{little, octetsOf}
 use Rattle.octets.specs.Parts.{splice, hasRoom}
 use Rattle.radiotap_rules.specs.Rules.{Row, Rules, editionTaken, served}
@@ -99,3 +99,9 @@ writing rules size at edition word values =
     (refused valuesLength 0))
     (refused unknownBit 0))
     (refused editionAbove 0)
+
+-- what the output then holds
+unfoldable pub written : Rules → List ℕ → (at edition word : ℕ) → List ℕ → List ℕ
+written rules out at edition word values =
+    afterWrite (writing rules (length out) at edition word values) out
+    (splice out at (headerOctets rules (editionTaken (rules .writingDefault) edition) word values))

@@ -1,11 +1,17 @@
 -- Document 01, "Refusal numbers": what a refusal is, and the numbers that several formats give.
 -- A definition's choice by a test is the library's `cond` of mathlib.Core.Bool.
 use Prim.Native.Nat.{ℕ}
+use mathlib.Core.List.{List}
 
 -- an answer: a refusal with its number and its place, or a value
 pub data Answer (A : Type 0) : Type 0 where
   refused : (number place : ℕ) → Answer A
   given : A → Answer A
+
+-- an output after a write: changed where the write is accepted, as it was where it is refused
+abbrev pub afterWrite : Answer ℕ → List ℕ → List ℕ → List ℕ
+afterWrite (refused n q) before written = before
+afterWrite (given next) before written = written
 
 -- 1: the input is shorter than the fixed header
 abbrev pub shortHeader : ℕ

@@ -1,5 +1,8 @@
-// A refusal, and the refusal numbers of document 01 that several formats give.
+// A refusal, the refusal numbers of document 01 that several formats give, and what a writer answers.
 // A number that one crate alone gives is named in that crate.
+ghost use mathlib.Core.Path.{_≡_};
+ghost use Rattle.refusals.specs.Refusals.{refused as Refused};
+ghost use Rattle.refusals.specs.Says.{writeSays};
 
 // A refusal: its number, and the place in the input that it speaks of.
 pub struct Refusal {
@@ -25,3 +28,16 @@ pub const PACKET: u32 = 7;
 pub const NO_ROOM: u32 = 13;
 // A record place is outside the part of the input where records lie.
 pub const RECORD_PLACE: u32 = 17;
+
+// What a writer answers: the refusal, or the place after what was written.
+pub enum WriteAnswer {
+    Refused(Refusal),
+    Written(usize),
+}
+
+// A writer's refusal, always at place 0.
+pub fn write_refused(number: u32) -> WriteAnswer
+    ensures { λ r. ⌜ writeSays r ≡ Refused number 0 ⌝ }
+{
+    WriteAnswer::Refused(Refusal { number, place: 0 })
+}

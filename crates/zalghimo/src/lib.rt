@@ -9,6 +9,10 @@ ghost use Rattle.btsnoop_rules.specs.Writing.{headerWriting, headerWritten, rec
 ghost use Rattle.btsnoop_rules.specs.Drops.{dropsBetween};
 ghost use Rattle.btsnoop_earlier.specs.Earlier.{earlierOf};
 ghost use Rattle.capture_time.specs.Time.{reading, writing};
+ghost use Rattle.radiotap_rules.specs.Table.{ourRules};
+ghost use Rattle.radiotap_rules.specs.Reading.{reading as readingIn, fieldOf};
+ghost use Rattle.radiotap_rules.specs.Answers.{wordNumber, summary};
+ghost use Rattle.boundary_radiotap.specs.Rows.{radiotapRow, wordRow, fieldRow};
 ghost use Rattle.boundary.specs.Rows.{headerRow, fileRow, recordRow, surveyRow, earlierRow, timeRow, timeFieldRow, writtenRow};
 use boundary::Earlier;
 use boundary::File;
@@ -18,6 +22,9 @@ use boundary::Survey;
 use boundary::Time;
 use boundary::TimeField;
 use boundary::Written;
+use boundary_radiotap::Field;
+use boundary_radiotap::Radiotap;
+use boundary_radiotap::Word;
 
 // Reads the file header of a BTSnoop file.
 #[no_mangle]
@@ -124,4 +131,28 @@ pub extern "C" fn zalghimo_btsnoop_write_record(
         time,
         packet,
     ))
+}
+
+// Reads a radiotap header in an edition.
+#[no_mangle]
+pub extern "C" fn zalghimo_radiotap_read(input: &[u8], edition: u32) -> Radiotap
+    ensures { λ r. ⌜ r ≡ radiotapRow (summary (now (input .entry)) (readingIn ourRules edition (now (input .entry)))) ⌝ }
+{
+    boundary_radiotap::rows::radiotap(radiotap::read(input, edition))
+}
+
+// Reads a presence word of a radiotap header by its number.
+#[no_mangle]
+pub extern "C" fn zalghimo_radiotap_word(input: &[u8], number: usize) -> Word
+    ensures { λ r. ⌜ r ≡ wordRow (wordNumber (now (input .entry)) number) ⌝ }
+{
+    boundary_radiotap::rows::word(radiotap_head::word(input, number))
+}
+
+// Reads a field of a radiotap header in an edition by its number.
+#[no_mangle]
+pub extern "C" fn zalghimo_radiotap_field(input: &[u8], edition: u32, number: usize) -> Field
+    ensures { λ r. ⌜ r ≡ fieldRow (fieldOf (readingIn ourRules edition (now (input .entry))) number) ⌝ }
+{
+    boundary_radiotap::rows::field(radiotap::field(input, edition, number))
 }

@@ -24,28 +24,28 @@ room c = leb-true _ _ (sym (c .before .has-room .ensures) ∙ not-false _ (c .if
 served-requires : tie.Need-served-requires
 served-requires c κs = search needs
 
-refused-requires : tie.Need-refused-requires
-refused-requires c κs = search needs
+write-refused-requires : tie.Need-write-refused-requires
+write-refused-requires c κs = search needs
 
 returns : tie.Need-returns
 returns c =
     let a = c .before .before .before .before .args in
     let other = sym (c .before .before .served .ensures) ∙ not-true _ (c .before .if1 .taken) in
     let outcome = header-datalink (now (a .out)) (a .place) (a .datalink) other in
-    (c .refused .ensures ∙ sym (outcome .0), sym (outcome .1))
+    (c .write-refused .ensures ∙ sym (outcome .0), sym (outcome .1))
 
 has-room-requires : tie.Need-has-room-requires
 has-room-requires c κs = search needs
 
-refused-requires-2 : tie.Need-refused-requires-2
-refused-requires-2 c κs = search needs
+write-refused-requires-2 : tie.Need-write-refused-requires-2
+write-refused-requires-2 c κs = search needs
 
 returns-2 : tie.Need-returns-2
 returns-2 c =
     let a = c .before .before .before .before .before .before .args in
     let few = leb-false _ _ (sym (c .before .before .has-room .ensures) ∙ not-true _ (c .before .if2 .taken)) in
     let outcome = header-no-room (now (a .out)) (a .place) (a .datalink) (code-served (c .before .before .before)) few in
-    (c .refused2 .ensures ∙ sym (outcome .0), sym (outcome .1))
+    (c .write-refused2 .ensures ∙ sym (outcome .0), sym (outcome .1))
 
 header-octets-requires : tie.Need-header-octets-requires
 header-octets-requires c κs = room (c .before)
@@ -68,10 +68,10 @@ header-spec =
     tie.close
     (tie.spec
     served-requires
-    refused-requires
+    write-refused-requires
     returns
     has-room-requires
-    refused-requires-2
+    write-refused-requires-2
     returns-2
     header-octets-requires
     add-t6

@@ -19,14 +19,14 @@ use Rattle.btsnoop_write.proofs.record.Tie as tie
 room : (c : tie.Else2) → c .before .before .before .before .before .args .place + (recordLength + length (now (c .before .before .before .before .before .args .packet))) ≤ length (now (c .before .before .before .before .before .args .out))
 room c = leb-true _ _ (sym (c .before .has-room .ensures) ∙ not-false _ (c .if2 .left))
 
-refused-requires : tie.Need-refused-requires
-refused-requires c κs = search needs
+write-refused-requires : tie.Need-write-refused-requires
+write-refused-requires c κs = search needs
 
 returns : tie.Need-returns
 returns c =
     let a = c .before .before .before .before .args in
     let outcome = record-included (now (a .out)) (a .place) (a .original) (a .flags) (a .drops) (a .time) (now (a .packet)) (omega arith) in
-    (c .refused .ensures ∙ sym (outcome .0), sym (outcome .1))
+    (c .write-refused .ensures ∙ sym (outcome .0), sym (outcome .1))
 
 add-size : tie.Need-add-size
 add-size c = search needs
@@ -34,15 +34,15 @@ add-size c = search needs
 has-room-requires : tie.Need-has-room-requires
 has-room-requires c κs = search needs
 
-refused-requires-2 : tie.Need-refused-requires-2
-refused-requires-2 c κs = search needs
+write-refused-requires-2 : tie.Need-write-refused-requires-2
+write-refused-requires-2 c κs = search needs
 
 returns-2 : tie.Need-returns-2
 returns-2 c =
     let a = c .before .before .before .before .before .before .args in
     let few = leb-false _ _ (sym (c .before .before .has-room .ensures) ∙ not-true _ (c .before .if2 .taken)) in
     let outcome = record-no-room (now (a .out)) (a .place) (a .original) (a .flags) (a .drops) (a .time) (now (a .packet)) (omega arith) few in
-    (c .refused2 .ensures ∙ sym (outcome .0), sym (outcome .1))
+    (c .write-refused2 .ensures ∙ sym (outcome .0), sym (outcome .1))
 
 cast-lengths : tie.Need-cast-lengths
 cast-lengths c = search needs
@@ -88,11 +88,11 @@ pub record-spec : {M : Type 1} → statement M
 record-spec =
     tie.close
     (tie.spec
-    refused-requires
+    write-refused-requires
     returns
     add-size
     has-room-requires
-    refused-requires-2
+    write-refused-requires-2
     returns-2
     cast-lengths
     lengths-requires

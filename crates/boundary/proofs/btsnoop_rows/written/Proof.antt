@@ -1,8 +1,8 @@
 -- `boundary::btsnoop_rows::written` meets its contract: each arm is the row of the case that the answer is.
 -- Assumes nothing.
 use mathlib.Core.Path.{_≡_, sym, ap, _∙_}
-use Rattle.btsnoop_write.specs.Says.{writeSays}
-use Rattle.btsnoop_write.specs.declared.WriteAnswer.{WriteAnswer}
+use Rattle.refusals.specs.Says.{writeSays}
+use Rattle.refusals.specs.declared.WriteAnswer.{WriteAnswer}
 use Rattle.boundary.specs.Rows.{writtenRow}
 use borrow.Author.Needs.{needs}
 use Rattle.boundary.proofs.btsnoop_rows.written.Statement.{statement}

@@ -1,7 +1,7 @@
 -- What a writer's answer says in document 01's terms, case by case.
 use Prim.Native.Nat.{ℕ}
 use Rattle.refusals.specs.Refusals.{Answer, refused, given}
-use Rattle.btsnoop_write.specs.declared.WriteAnswer.{WriteAnswer}
+use Rattle.refusals.specs.declared.WriteAnswer.{WriteAnswer}
 
 -- a writer: the refusal, or the place after what was written
 abbrev pub writeSays : WriteAnswer → Answer ℕ

@@ -1,0 +1,3 @@
+pub mod FixedLaws
+pub mod PresenceLaws
+pub mod WordLaws

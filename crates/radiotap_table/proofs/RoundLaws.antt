@@ -1,0 +1,60 @@
+-- The next multiple of a power of two, by a mask.
+-- Assumes nothing.
+use Prim.Native.Nat.{ℕ, _+_, _-_, _^_, _≤_}
+use mathlib.Core.Path.{_≡_, refl, sym, subst}
+use mathlib.Core.Bool.{Bool, true, false, _||_}
+use native.Mathlib.Omega.{arith}
+use lib.Dec.{eqb}
+use lib.Bits.{bitAnd, and-mask}
+use lib.Pow.{pow-pos, split}
+use borrow.Author.Tests.{eqb-true}
+use Rattle.radiotap_rules.specs.Rules.{alignmentOk}
+use Rattle.radiotap_rules.specs.Reading.{aligned}
+
+-- a power of two
+abbrev Power : ℕ → Type 0
+Power a = (k : ℕ) × (2 ^ k ≡ a)
+
+-- an alignment is a power of two
+alignment-power : (a : ℕ) → alignmentOk a ≡ true → Power a
+alignment-power a = go (eqb a 1) (eqb a 2) (eqb a 4) (eqb a 8) (power 0) (power 1) (power 2) (power 3)
+  where
+    power : (k : ℕ) → eqb a (2 ^ k) ≡ true → Power a
+    power k e = (k, sym (eqb-true a (2 ^ k) e))
+
+    go : (t u v w : Bool) → (t ≡ true → Power a) → (u ≡ true → Power a) → (v ≡ true → Power a) → (w ≡ true → Power a)
+        → (t || u || v || w) ≡ true → Power a
+    go true u v w p q r s e = p refl
+    go false true v w p q r s e = q refl
+    go false false true w p q r s e = r refl
+    go false false false w p q r s e = s e
+
+-- an alignment is above 0
+pub alignment-above : (a : ℕ) → alignmentOk a ≡ true → 1 ≤ a
+alignment-above a ok = let p = alignment-power a ok in omega (arith, pow-pos (p .0), p .1)
+
+-- the mask of a power of two is the remainder, so what is left is the multiple below
+power-masked : (k at : ℕ) → at + (2 ^ k - 1) - bitAnd (at + (2 ^ k - 1)) (2 ^ k - 1) ≡ aligned (2 ^ k) at
+power-masked k at =
+    let past : ℕ = at + (2 ^ k - 1) in
+    omega (arith, and-mask past k, split past k)
+
+-- less what the mask keeps, the last place before the next multiple is that multiple
+pub alignment-masked : (a at : ℕ) → alignmentOk a ≡ true → at + (a - 1) - bitAnd (at + (a - 1)) (a - 1) ≡ aligned a at
+alignment-masked a at ok =
+    let p = alignment-power a ok in
+    subst (λ (x : ℕ). at + (x - 1) - bitAnd (at + (x - 1)) (x - 1) ≡ aligned x at) (p .1) (power-masked (p .0) at)
+
+-- an alignment is at most 8
+pub alignment-most : (a : ℕ) → alignmentOk a ≡ true → a ≤ 8
+alignment-most a = go (eqb a 1) (eqb a 2) (eqb a 4) (eqb a 8) (is 1 (omega arith)) (is 2 (omega arith)) (is 4 (omega arith)) (is 8 (omega arith))
+  where
+    is : (n : ℕ) → n ≤ 8 → eqb a n ≡ true → a ≤ 8
+    is n h e = omega (arith, eqb-true a n e)
+
+    go : (t u v w : Bool) → (t ≡ true → a ≤ 8) → (u ≡ true → a ≤ 8) → (v ≡ true → a ≤ 8) → (w ≡ true → a ≤ 8)
+        → (t || u || v || w) ≡ true → a ≤ 8
+    go true u v w p q r s e = p refl
+    go false true v w p q r s e = q refl
+    go false false true w p q r s e = r refl
+    go false false false w p q r s e = s e
