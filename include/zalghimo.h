@@ -14,6 +14,7 @@ enum {
     ZALGHIMO_VALUES = 1,
     ZALGHIMO_END = 2,
     ZALGHIMO_MORE = 3,
+    ZALGHIMO_STOPPED = 4, /* a radiotap header read up to a bit that the edition does not know, named by word and bit */
 };
 
 /* Fields that a kind has no value for are 0. */
@@ -29,6 +30,15 @@ typedef struct { uint64_t kind, number, place, capture, packet, length; } zalghi
 typedef struct { uint64_t kind, number, place; int64_t seconds; uint64_t microseconds; } zalghimo_time;
 typedef struct { uint64_t kind, number, place; int64_t field; } zalghimo_time_field;
 typedef struct { uint64_t kind, number, place, next; } zalghimo_written;
+typedef struct {
+    uint64_t kind, number, place;
+    uint64_t fields;     /* how many are shown */
+    uint64_t frame;      /* its place */
+    uint64_t word, bit;  /* of the stop */
+    uint64_t pad, words; /* the pad octet as found, how many presence words */
+} zalghimo_radiotap;
+typedef struct { uint64_t kind, number, place, value; } zalghimo_word;
+typedef struct { uint64_t kind, number, place, word, bit, start, size; } zalghimo_field;
 
 /* BTSnoop, reading. */
 zalghimo_header zalghimo_btsnoop_header(const uint8_t *input, size_t length);
@@ -46,5 +56,17 @@ zalghimo_written zalghimo_btsnoop_write_header(uint8_t *output, size_t length, s
 zalghimo_written zalghimo_btsnoop_write_record(uint8_t *output, size_t length, size_t place, uint32_t original,
                                                uint32_t flags, uint32_t drops, int64_t time,
                                                const uint8_t *packet, size_t packet_length);
+
+/* Radiotap, in editions 1 to 3; edition 0 asks for the default. A header is judged whole first: one refused at a field
+ * shows none. A field or word at or past the last is the end, or the stop that the reading came to. */
+zalghimo_radiotap zalghimo_radiotap_read(const uint8_t *input, size_t length, uint32_t edition);
+zalghimo_word zalghimo_radiotap_word(const uint8_t *input, size_t length, size_t number);
+zalghimo_field zalghimo_radiotap_field(const uint8_t *input, size_t length, uint32_t edition, size_t number);
+/* Puts word, bit, start and size of each field into `fields`, as many whole fields as fit; the rest stays as it was. */
+zalghimo_radiotap zalghimo_radiotap_fields(const uint8_t *input, size_t length, uint32_t edition, uint64_t *fields,
+                                           size_t fields_length);
+/* Writes a header with one presence word; the values are packed without gaps in bit order. */
+zalghimo_written zalghimo_radiotap_write(uint8_t *output, size_t length, size_t place, uint32_t edition,
+                                         uint32_t presence, const uint8_t *values, size_t values_length);
 
 #endif

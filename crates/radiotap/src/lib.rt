@@ -12,10 +12,8 @@ ghost use Rattle.radiotap.specs.Outcomes.{outcome, walkSays, KeptInside,
 use radiotap_head::HeadAnswer;
 use radiotap_rules::Head;
 use radiotap_step::Step;
+use radiotap_table::EDITION_ABOVE;
 use refusals::Refusal;
-
-// The edition is above the newest.
-pub const EDITION_ABOVE: u32 = 15;
 
 // A header as a whole: refused; or how many fields are shown, the frame's place, the pad octet as found, how many
 // presence words, and where the reading stopped if it did.

@@ -10,3 +10,4 @@ pub mod Following
 pub mod ReadBack
 pub mod Unstopped
 pub mod Rewriting
+pub mod Outputs

@@ -10,31 +10,33 @@ use lib.ListN.{length, getD, take, drop, length-append, length-drop, length-repl
 use lib.Seq.{length-take-le}
 use lib.Dec.{leb, ltb}
 use borrow.Author.Tests.{leb-true, leb-false, ne-eqb}
+use Rattle.octets.specs.Numbers.{octetsOf}
 use Rattle.octets.specs.Parts.{part}
 use Rattle.radiotap_rules.specs.Rules.{Row, Rules, unknown, rowOf, knows, alignmentOk, rowOk, rowsOk, tableOk}
 use Rattle.radiotap_rules.specs.Reading.{fixedLength, bitSet, wordBits, wordAt, bitAt, present, Meaning, nothing, unknownHere, field, meaning, aligned, Field, ended, stopped, Walk, refusedAt, shown, withField, onMeaning, fieldsFrom, fieldsOf}
-use Rattle.radiotap_rules.specs.Writing.{isField, writableAt, writableFrom, writable, Planned, withPlan, planFrom, plan, summed, laid}
+use Rattle.radiotap_rules.specs.Writing.{isField, writableAt, writableFrom, writable, Planned, withPlan, planFrom, plan, summed, laid, headerOctets}
 use Rattle.radiotap_rules.specs.Rewriting.{lastEnd}
 use Rattle.radiotap_rules.proofs.Walks.{fieldAt, by-meaning}
 
+-- something holds of the row of every planned field
+abbrev pub EachRow : (Row → Type 0) → List Planned → Type 0
+EachRow P [] = Unit {0}
+EachRow P (p ∷ ps) = P (p .row) × EachRow P ps
+
 -- every planned field has an alignment above 0
 abbrev pub Aligned : List Planned → Type 0
-Aligned [] = Unit {0}
-Aligned (p ∷ ps) = (0 < p .row .alignment) × Aligned ps
+Aligned = EachRow (λ r. 0 < r .alignment)
 
--- a row that some edition knows has an alignment above 0
-row-aligned : (newest : ℕ) (rs : List Row) (n : ℕ) → rowsOk newest rs ≡ true → 1 ≤ getD rs n unknown .first
-    → 0 < getD rs n unknown .alignment
-row-aligned newest [] n ok h = absurd (omega arith)
-row-aligned newest (r ∷ rs) zero ok h = go (r .alignment) (and-eq-true-iff _ _ .0 (and-eq-true-iff _ _ .0 passed .0) .0)
+-- a row that some edition knows has an alignment that passes the test
+row-alignment : (newest : ℕ) (rs : List Row) (n : ℕ) → rowsOk newest rs ≡ true → 1 ≤ getD rs n unknown .first
+    → alignmentOk (getD rs n unknown .alignment) ≡ true
+row-alignment newest [] n ok h = absurd (omega arith)
+row-alignment newest (r ∷ rs) zero ok h = and-eq-true-iff _ _ .0 (and-eq-true-iff _ _ .0 passed .0) .0
   where
     passed : (alignmentOk (r .alignment) && ltb 0 (r .size) && leb (r .first) newest) ≡ true
     passed = rw (ne-eqb (r .first) 0 (omega arith)) at (and-eq-true-iff (rowOk newest r) (rowsOk newest rs) .0 ok .0)
-
-    go : (a : ℕ) → alignmentOk a ≡ true → 0 < a
-    go zero e = let z : _≡_ {A = ℕ} 0 1 = cc in absurd (omega arith)
-    go (suc a) e = omega arith
-row-aligned newest (r ∷ rs) (suc n) ok h = row-aligned newest rs n (and-eq-true-iff (rowOk newest r) (rowsOk newest rs) .0 ok .1) h
+row-alignment newest (r ∷ rs) (suc n) ok h =
+    row-alignment newest rs n (and-eq-true-iff (rowOk newest r) (rowsOk newest rs) .0 ok .1) h
 
 -- the next multiple of an alignment above 0 is not before the place
 pub aligned-after : (a at : ℕ) → 0 < a → at ≤ aligned a at
@@ -47,34 +49,53 @@ known-from rules edition n e =
     let both = and-eq-true-iff (leb 1 (rowOf rules n .first)) (leb (rowOf rules n .first) edition) .0 e in
     (leb-true _ _ (both .0), leb-true _ _ (both .1))
 
--- under a table that passes the test, a field that an edition knows has an alignment above 0
-pub known-aligned : (rules : Rules) (edition n : ℕ) → tableOk rules ≡ true → knows rules edition n ≡ true
-    → 0 < rowOf rules n .alignment
-known-aligned rules edition n ok known =
-    row-aligned (rules .newest) (rules .rows) n (first _ _ _ _ _ _ ok) (known-from rules edition n known .0)
+-- under a table that passes the test, a field that an edition knows has an alignment that does
+pub known-alignment : (rules : Rules) (edition n : ℕ) → tableOk rules ≡ true → knows rules edition n ≡ true
+    → alignmentOk (rowOf rules n .alignment) ≡ true
+known-alignment rules edition n ok known =
+    row-alignment (rules .newest) (rules .rows) n (first _ _ _ _ _ _ ok) (known-from rules edition n known .0)
   where
     first : (a b c d e f : Bool) → (a && b && c && d && e && f) ≡ true → a ≡ true
     first true b c d e f h = refl
     first false b c d e f h = h
 
-planned-aligned : (rules : Rules) (edition word left q : ℕ) → tableOk rules ≡ true → Aligned (planFrom rules edition word left q)
-planned-aligned rules edition word zero q ok = tt
-planned-aligned rules edition word (suc left) q ok = go (planFrom rules edition word left (suc q)) (planned-aligned rules edition word left (suc q) ok)
+-- so it is above 0
+pub known-aligned : (rules : Rules) (edition n : ℕ) → tableOk rules ≡ true → knows rules edition n ≡ true
+    → 0 < rowOf rules n .alignment
+known-aligned rules edition n ok known = go (rowOf rules n .alignment) (known-alignment rules edition n ok known)
   where
-    known : (k : Bool) (ps : List Planned) → knows rules edition (bitAt q) ≡ k → Aligned ps
-        → Aligned (withPlan q (cond k (field (rowOf rules (bitAt q))) unknownHere) ps)
-    known true ps e rest = (known-aligned rules edition (bitAt q) ok e, rest)
-    known false ps e rest = rest
+    go : (a : ℕ) → alignmentOk a ≡ true → 0 < a
+    go zero e = let z : _≡_ {A = ℕ} 0 1 = cc in absurd (omega arith)
+    go (suc a) e = omega arith
 
-    go : (ps : List Planned) → Aligned ps → Aligned (withPlan q (meaning rules edition (word ∷ []) q) ps)
-    go ps rest =
-        by-meaning (word ∷ []) q (λ meaningIn. Aligned (withPlan q (meaningIn rules edition) ps)) rest rest
-        (known (knows rules edition (bitAt q)) ps refl rest)
+module _ (rules : Rules) (edition word : ℕ) (P : Row → Type 0)
+    (holds : (n : ℕ) → knows rules edition n ≡ true → P (rowOf rules n)) where
+  each-from : (left q : ℕ) → EachRow P (planFrom rules edition word left q)
+  each-from zero q = tt
+  each-from (suc left) q = go (planFrom rules edition word left (suc q)) (each-from left (suc q))
+    where
+      known : (k : Bool) (ps : List Planned) → knows rules edition (bitAt q) ≡ k → EachRow P ps
+          → EachRow P (withPlan q (cond k (field (rowOf rules (bitAt q))) unknownHere) ps)
+      known true ps e rest = (holds (bitAt q) e, rest)
+      known false ps e rest = rest
+
+      go : (ps : List Planned) → EachRow P ps → EachRow P (withPlan q (meaning rules edition (word ∷ []) q) ps)
+      go ps rest =
+          by-meaning (word ∷ []) q (λ meaningIn. EachRow P (withPlan q (meaningIn rules edition) ps)) rest rest
+          (known (knows rules edition (bitAt q)) ps refl rest)
+
+  -- what holds of the row of every field that an edition knows holds of every planned field's
+  pub each-planned : EachRow P (plan rules edition word)
+  unfolding plan
+  each-planned = each-from wordBits 0
 
 -- under a table that passes the test, every planned field has an alignment above 0
+planned-aligned : (rules : Rules) (edition word left q : ℕ) → tableOk rules ≡ true → Aligned (planFrom rules edition word left q)
+planned-aligned rules edition word left q ok =
+    each-from rules edition word (λ r. 0 < r .alignment) (λ n. known-aligned rules edition n ok) left q
+
 pub plan-aligned : (rules : Rules) (edition word : ℕ) → tableOk rules ≡ true → Aligned (plan rules edition word)
-unfolding plan
-plan-aligned rules edition word = planned-aligned rules edition word wordBits 0
+plan-aligned rules edition word ok = each-planned rules edition word (λ r. 0 < r .alignment) (λ n. known-aligned rules edition n ok)
 
 -- the last field ends not before the place that the fields are laid from
 pub end-after : (at : ℕ) (ps : List Planned) → Aligned ps → at ≤ lastEnd at ps
@@ -93,6 +114,12 @@ length-laid at (p ∷ ps) values h long =
     let value : length (take size values) ≡ size = length-take-le size values (omega arith) in
     let rest = length-laid (place + size) ps (drop size values) (h .1) (rw length-drop (omega arith)) in
     simp (length-append, length-replicate) (omega arith)
+
+-- the octets of a header are as many as its length says
+pub length-header : (rules : Rules) (edition word : ℕ) (values : List ℕ)
+    → length (headerOctets rules edition word values) ≡ fixedLength + length (laid (plan rules edition word) fixedLength values)
+unfolding headerOctets octetsOf
+length-header rules edition word values = omega arith
 
 -- the planned fields with the octets of an input at their places
 abbrev pub plannedFields : List ℕ → (at : ℕ) → List Planned → List Field

@@ -20,11 +20,11 @@ use Rattle.radiotap_rules.specs.Rules.{Rules, rowsOk, noneKnows, tableOk
 use Rattle.radiotap_rules.specs.Reading.{fixedLength, lengthIn, fixedHeader, presenceWords, aligned, Field, ended, Walk, shown, fieldsOf}
 use Rattle.radiotap_rules.specs.Writing.{writable, Planned, plan, summed, laid, headerOctets, writing, written}
 use Rattle.radiotap_rules.specs.Rewriting.{Writable, joined, GapsZero, lastEnd, OneWord, RewritesItself}
-use Rattle.radiotap_rules.proofs.Walks.{read-served, read-shown}
+use Rattle.radiotap_rules.proofs.Walks.{chosen, read-served, read-shown}
 use Rattle.radiotap_rules.proofs.Words.{words-at, last-calls-none}
 use Rattle.radiotap_rules.proofs.Unstopped.{walk-writable}
 use Rattle.radiotap_rules.proofs.Places.{length-inside}
-use Rattle.radiotap_rules.proofs.Planning.{Aligned, aligned-after, plan-aligned, end-after, length-laid, plannedFields, WalkedTo, walked}
+use Rattle.radiotap_rules.proofs.Planning.{Aligned, aligned-after, plan-aligned, end-after, length-laid, length-header, plannedFields, WalkedTo, walked}
 
 -- a part of an input is its first part and the part behind that
 part-add : (s : List ℕ) (at m n : ℕ) → part s at (m + n) ≡ part s at m ++ part s (at + m) n
@@ -128,11 +128,6 @@ record Fixed (s : List ℕ) (size : ℕ) : Type 0 where
   sized : lengthIn s ≡ size
   low : fixedLength ≤ size
 
--- a test that chooses something given, and not a refusal, holds
-chosen : (t : Bool) (n q : ℕ) {x : Answer ℕ} {a : ℕ} → cond t x (refused n q) ≡ given a → (t ≡ true) × (x ≡ given a)
-chosen true n q e = (refl, e)
-chosen false n q e = let z : _≡_ {A = ℕ} 0 1 = cc in absurd (omega arith)
-
 fixed-back : (s : List ℕ) (size : ℕ) → fixedHeader s ≡ given size → Fixed s size
 unfolding fixedHeader
 fixed-back s size e =
@@ -215,12 +210,6 @@ taken-served rules edition ok servedHere = go (eqb edition 0) refl (default-serv
     go true e default =
         (le-leb _ _ (default .1), rw (ne-eqb (rules .readingDefault) 0 (λ z. omega (arith, default .0))))
     go false e default = (servedHere, rw e)
-
--- the octets of a header are as many as its length says
-length-header : (rules : Rules) (edition word : ℕ) (values : List ℕ)
-    → length (headerOctets rules edition word values) ≡ fixedLength + length (laid (plan rules edition word) fixedLength values)
-unfolding headerOctets octetsOf
-length-header rules edition word values = omega arith
 
 -- the writer's answer and output, where it serves the edition as itself and accepts the word and the values
 module _ (rules : Rules) (edition word : ℕ) (values : List ℕ) (serves : served rules edition ≡ true)

@@ -9,3 +9,4 @@ pub mod Steps
 pub mod Answers
 pub mod Writing
 pub mod Rewriting
+pub mod Outputs

@@ -47,6 +47,9 @@ pub const ROWS: [[u8; 3]; 32] = [
     [0, 0, 0], // 31: another presence word
 ];
 
+// The refusal of an edition above the newest.
+pub const EDITION_ABOVE: u32 = 15;
+
 // The newest edition.
 pub const NEWEST: u32 = 3;
 // The edition that edition 0 asks for when reading.

@@ -11,7 +11,8 @@ ghost use Rattle.btsnoop_earlier.specs.Earlier.{earlierOf};
 ghost use Rattle.capture_time.specs.Time.{reading, writing};
 ghost use Rattle.radiotap_rules.specs.Table.{ourRules};
 ghost use Rattle.radiotap_rules.specs.Reading.{reading as readingIn, fieldOf};
-ghost use Rattle.radiotap_rules.specs.Answers.{wordNumber, summary};
+ghost use Rattle.radiotap_rules.specs.Answers.{wordNumber, summary, listedInto};
+ghost use Rattle.radiotap_rules.specs.Writing.{writing as writingIn, written as writtenIn};
 ghost use Rattle.boundary_radiotap.specs.Rows.{radiotapRow, wordRow, fieldRow};
 ghost use Rattle.boundary.specs.Rows.{headerRow, fileRow, recordRow, surveyRow, earlierRow, timeRow, timeFieldRow, writtenRow};
 use boundary::Earlier;
@@ -155,4 +156,32 @@ pub extern "C" fn zalghimo_radiotap_field(input: &[u8], edition: u32, number: us
     ensures { λ r. ⌜ r ≡ fieldRow (fieldOf (readingIn ourRules edition (now (input .entry))) number) ⌝ }
 {
     boundary_radiotap::rows::field(radiotap::field(input, edition, number))
+}
+
+// Reads a radiotap header in an edition and puts its fields into a list of numbers, four a field.
+#[no_mangle]
+pub extern "C" fn zalghimo_radiotap_fields(
+    input: &[u8],
+    edition: u32,
+    fields: &mut [u64],
+) -> Radiotap
+    ensures { λ r. ⌜ r ≡ radiotapRow (summary (now (input .entry)) (readingIn ourRules edition (now (input .entry)))) ⌝ }
+    ensures { λ _. ⌜ now (fields .exit) ≡ listedInto (now (fields .entry)) (readingIn ourRules edition (now (input .entry))) ⌝ }
+{
+    boundary_radiotap::rows::radiotap(radiotap_list::fields(input, edition, fields))
+}
+
+// Writes a radiotap header with one presence word into an output at a place.
+#[no_mangle]
+pub extern "C" fn zalghimo_radiotap_write(
+    output: &mut [u8],
+    place: usize,
+    edition: u32,
+    presence: u32,
+    values: &[u8],
+) -> Written
+    ensures { λ r. ⌜ r ≡ writtenRow (writingIn ourRules (length (now (output .entry))) place edition presence (now (values .entry))) ⌝ }
+    ensures { λ _. ⌜ now (output .exit) ≡ writtenIn ourRules (now (output .entry)) place edition presence (now (values .entry)) ⌝ }
+{
+    boundary::btsnoop_rows::written(radiotap_write::write(output, place, edition, presence, values))
 }

@@ -1,0 +1,173 @@
+-- What the writer put into an output is read back from it: an accepted header is short enough for its length field by the
+-- test over the rows, so the octets spliced in are read as the header alone.
+-- Assumes nothing.
+use Prim.Native.Nat.{ℕ, zero, suc, _+_, _-_, _*_, _^_, _≤_, _<_}
+use mathlib.Core.Path.{_≡_, refl, sym, ap, _∙_}
+use mathlib.Core.Bool.{true, false, and-eq-true-iff}
+use mathlib.Core.List.{List, [], _∷_, _++_, append-assoc, append-nil}
+use native.Mathlib.Omega.{arith}
+use native.Mathlib.Nat.{suc-mul, mul-le-mul-right, div-mul-le-self}
+use native.Mathlib.Decide.{decLe}
+use lib.ListN.{length, getD, take, drop, length-append}
+use lib.Seq.{take-at, drop-at, length-take-le}
+use lib.Dec.{ltb, eqb}
+use borrow.Author.Tests.{leb-true, ltb-true, eqb-true, ne-eqb}
+use Rattle.refusals.specs.Refusals.{Answer, given}
+use Rattle.octets.specs.Parts.{part, splice, hasRoom}
+use Rattle.octets.proofs.PartLaws.{length-splice, part-splice}
+use Rattle.radiotap_rules.specs.Rules.{Row, Rules, unknown, rowOf, alignmentOk, tableOk, editionTaken, served}
+use Rattle.radiotap_rules.specs.Reading.{fixedLength, wordBits, Meaning, nothing, unknownHere, field, meaning, aligned, ended, reading, read}
+use Rattle.radiotap_rules.specs.Table.{ourRules}
+use Rattle.radiotap_rules.specs.Writing.{writable, Planned, withPlan, planFrom, plan, summed, laidFields, headerOctets, writing, written}
+use Rattle.radiotap_rules.specs.Rewriting.{Writable, lastEnd}
+use Rattle.radiotap_rules.specs.Outputs.{sizeWithin, sizesWithin, lengthFits, WrittenReadsBack, EveryTableReadsBack}
+use Rattle.radiotap_rules.proofs.Walks.{chosen}
+use Rattle.radiotap_rules.proofs.Planning.{EachRow, known-from, known-alignment, each-planned, plan-aligned, length-laid, length-header}
+use Rattle.radiotap_rules.proofs.ReadBack.{read-back}
+
+-- an alignment that passes the test is at most 8
+alignment-most : (a : ℕ) → alignmentOk a ≡ true → a ≤ 8
+alignment-most a ok = go (decLe a 8)
+  where
+    go : Dec (a ≤ 8) → a ≤ 8
+    go (yes l) = l
+    go (no l) =
+        let no : false ≡ true =
+        rw (ne-eqb a 1 (omega arith), ne-eqb a 2 (omega arith), ne-eqb a 4 (omega arith), ne-eqb a 8 (omega arith)) at ok in
+        let z : _≡_ {A = ℕ} 0 1 = cc in
+        absurd (omega arith)
+
+-- a row that some edition knows is as long as the test says
+row-within : (most : ℕ) (rs : List Row) (n : ℕ) → sizesWithin most rs ≡ true → 1 ≤ getD rs n unknown .first
+    → getD rs n unknown .size ≤ most
+row-within most [] n ok h = absurd (omega arith)
+row-within most (r ∷ rs) zero ok h =
+    leb-true (r .size) most (rw (ne-eqb (r .first) 0 (omega arith)) at (and-eq-true-iff (sizeWithin most r) (sizesWithin most rs) .0 ok .0))
+row-within most (r ∷ rs) (suc n) ok h = row-within most rs n (and-eq-true-iff (sizeWithin most r) (sizesWithin most rs) .0 ok .1) h
+
+-- a row with an alignment of at most 8 and at most so many octets
+abbrev Small : (most : ℕ) → Row → Type 0
+Small most r = (r .alignment ≤ 8) × (r .size ≤ most)
+
+-- such fields end within so many octets each from a place on
+end-within : (most at : ℕ) (ps : List Planned) → EachRow (Small most) ps → lastEnd at ps ≤ at + length ps * (most + 7)
+end-within most at [] h = omega arith
+end-within most at (p ∷ ps) h =
+    let a : ℕ = p .row .alignment in
+    let rest = end-within most (aligned a at + p .row .size) ps (h .1) in
+    omega (arith, h .0 .0, h .0 .1, rest, div-mul-le-self (at + (a - 1)) a, suc-mul (length ps) (most + 7))
+
+-- at most one field is planned for each position
+planned-few : (rules : Rules) (edition word left q : ℕ) → length (planFrom rules edition word left q) ≤ left
+planned-few rules edition word zero q = omega arith
+planned-few rules edition word (suc left) q =
+    go (meaning rules edition (word ∷ []) q) (planFrom rules edition word left (suc q)) (planned-few rules edition word left (suc q))
+  where
+    go : (m : Meaning) (ps : List Planned) → length ps ≤ left → length (withPlan q m ps) ≤ suc left
+    go nothing ps h = omega arith
+    go unknownHere ps h = omega arith
+    go (field r) ps h = omega arith
+
+plan-few : (rules : Rules) (edition word : ℕ) → length (plan rules edition word) ≤ wordBits
+unfolding plan
+plan-few rules edition word = planned-few rules edition word wordBits 0
+
+-- under a table that passes both tests, the length of a header with values of the summed length fits two octets
+header-short : (rules : Rules) (most edition word : ℕ) (values : List ℕ) → tableOk rules ≡ true → lengthFits most rules ≡ true
+    → summed (plan rules edition word) ≤ length values → length (headerOctets rules edition word values) < 2 ^ 16
+header-short rules most edition word values ok fits long =
+    let ps : List Planned = plan rules edition word in
+    let both = and-eq-true-iff (sizesWithin most (rules .rows)) (ltb (fixedLength + wordBits * (most + 7)) (2 ^ 16)) .0 fits in
+    let small : EachRow (Small most) ps =
+    each-planned rules edition word (Small most)
+    (λ n known. (
+      alignment-most (rowOf rules n .alignment) (known-alignment rules edition n ok known),
+      row-within most (rules .rows) n (both .0) (known-from rules edition n known .0),
+    )) in
+    omega (
+      arith,
+      ltb-true (fixedLength + wordBits * (most + 7)) (2 ^ 16) (both .1),
+      length-header rules edition word values,
+      length-laid fixedLength ps values (plan-aligned rules edition word ok) long,
+      end-within most fixedLength ps small,
+      mul-le-mul-right (most + 7) (plan-few rules edition word),
+    )
+
+-- before and behind octets that are spliced in, an output is as it was
+splice-before : (out : List ℕ) (at : ℕ) (xs : List ℕ) → at ≤ length out → take at (splice out at xs) ≡ take at out
+unfolding splice
+splice-before out at xs h =
+    let rest : List ℕ = drop (at + length xs) out in
+    ap (take at) (append-assoc (take at out) xs rest) ∙ take-at (take at out) (xs ++ rest) at (length-take-le at out h)
+
+splice-behind : (out : List ℕ) (at : ℕ) (xs : List ℕ) → at ≤ length out
+    → drop (at + length xs) (splice out at xs) ≡ drop (at + length xs) out
+unfolding splice
+splice-behind out at xs h =
+    drop-at (take at out ++ xs) (drop (at + length xs) out) (at + length xs)
+    (omega (arith, length-append (take at out) xs, length-take-le at out h))
+
+-- what the writer's answer tells of the header, in the edition that it takes, where it is an acceptance
+record Accepted (rules : Rules) (size at next edition word : ℕ) (values : List ℕ) : Type 0 where
+  known : writable rules edition word ≡ true
+  long : length values ≡ summed (plan rules edition word)
+  room : at + length (headerOctets rules edition word values) ≤ size
+  after : at + length (headerOctets rules edition word values) ≡ next
+
+accepted : (rules : Rules) (size at next edition word : ℕ) (values : List ℕ) → writing rules size at edition word values ≡ given next
+    → Accepted rules size at next (editionTaken (rules .writingDefault) edition) word values
+unfolding writing
+accepted rules size at next edition word values e =
+    let taken : ℕ = editionTaken (rules .writingDefault) edition in
+    let serves = chosen (served rules edition) _ _ e in
+    let known = chosen (writable rules taken word) _ _ (serves .1) in
+    let long = chosen (eqb (length values) (summed (plan rules taken word))) _ _ (known .1) in
+    let room = chosen (hasRoom size at (length (headerOctets rules taken word values))) _ _ (long .1) in
+    record { known = known .0; long = eqb-true _ _ (long .0); room = leb-true _ _ (room .0); after = same (room .1) }
+  where
+    same : {a b : ℕ} → _≡_ {A = Answer ℕ} (given a) (given b) → a ≡ b
+    same e = cc
+
+-- the output of an accepted write
+spliced : (rules : Rules) (out : List ℕ) (at next edition word : ℕ) (values : List ℕ)
+    → writing rules (length out) at edition word values ≡ given next
+    → written rules out at edition word values
+    ≡ splice out at (headerOctets rules (editionTaken (rules .writingDefault) edition) word values)
+unfolding written
+spliced rules out at next edition word values e = rw e
+
+-- under every table that passes both tests, what the writer accepts is read back from the output
+pub every-table-reads-back : EveryTableReadsBack
+every-table-reads-back rules most ok fits out at next edition reader word values word32 octets serves later e =
+    let taken : ℕ = editionTaken (rules .writingDefault) edition in
+    let w = accepted rules (length out) at next edition word values e in
+    let xs : List ℕ = headerOctets rules taken word values in
+    let output : written rules out at edition word values ≡ splice out at xs = spliced rules out at next edition word values e in
+    let after : at + length xs ≡ next = w .after in
+    let inside : at + length xs ≤ length out = w .room in
+    let count : next - at ≡ length xs = omega arith in
+    let there : part (written rules out at edition word values) at (next - at) ≡ xs =
+    rw (output, count) (part-splice out at xs (omega arith)) in
+    let writes : Writable rules taken word values =
+    record {
+      known = w .known;
+      long = w .long;
+      word32 = word32;
+      octets = octets;
+      short = header-short rules most taken word values ok fits (omega (arith, w .long));
+    } in
+    let back : (frame : List ℕ) → reading rules reader (xs ++ frame) ≡ read (laidFields (plan rules taken word) fixedLength values) ended frame =
+    λ frame. read-back rules taken reader word values frame ok serves later writes in
+    record {
+      starts = omega arith;
+      ends = omega arith;
+      alone = rw there (ap (reading rules reader) (sym (append-nil xs)) ∙ back []);
+      followed = λ frame. rw there (back frame);
+      long = rw output (length-splice out at xs inside);
+      before = rw output (splice-before out at xs (omega arith));
+      behind = rw (output, ← after) (splice-behind out at xs (omega arith));
+    }
+
+-- so it is under the table of document 01, whose fields have at most 12 octets
+pub written-reads-back : WrittenReadsBack ourRules
+written-reads-back = every-table-reads-back ourRules 12 refl refl
