@@ -1,11 +1,12 @@
--- Case laws of a stored question's length: one for each outcome.
+-- Case laws of the stored questions: one for each outcome of a question's length, and of whether it is of a kind.
 -- Assumes nothing.
 use Prim.Native.Nat.{ℕ, _≤_, _<_}
 use mathlib.Core.Path.{_≡_}
+use mathlib.Core.Bool.{true, false}
 use mathlib.Core.List.{List}
 use lib.ListN.{length}
 use borrow.Author.Tests.{le-leb, lt-leb}
-use Rattle.question_lines.specs.Questions.{wholeLength, questionLength}
+use Rattle.question_lines.specs.Questions.{wholeLength, questionLength, isAmong}
 
 module _ (s : List ℕ) where
   pub no-head : length s < 49 → questionLength s ≡ 0
@@ -19,3 +20,16 @@ module _ (s : List ℕ) where
   pub whole : 49 ≤ length s → wholeLength s ≤ length s → questionLength s ≡ wholeLength s
   unfolding questionLength
   whole l h = rw (le-leb 49 (length s) l, le-leb (wholeLength s) (length s) h)
+
+module _ (low high op : ℕ) where
+  pub below : op < low → isAmong low high op ≡ false
+  unfolding isAmong
+  below h = rw (lt-leb low op h)
+
+  pub above : low ≤ op → high < op → isAmong low high op ≡ false
+  unfolding isAmong
+  above l h = rw (le-leb low op l, lt-leb op high h)
+
+  pub among : low ≤ op → op ≤ high → isAmong low high op ≡ true
+  unfolding isAmong
+  among l h = rw (le-leb low op l, le-leb op high h)

@@ -1,7 +1,9 @@
 // The stored questions of the independent program, and the lines that answer them (rust/README.md has the format).
 ghost use mathlib.Core.Path.{_≡_};
+ghost use Prim.Native.Nat.{_%_, _^_, min};
 ghost use lib.ListN.{length};
-ghost use Rattle.question_lines.specs.Questions.{questionLength};
+ghost use Rattle.io.specs.Counts.{Counts};
+ghost use Rattle.question_lines.specs.Questions.{questionLength, isAmong, roomOf};
 use libc::STDOUT_FILENO;
 
 // The length of a question before its octets: its number, five parameters and two lengths.
@@ -62,4 +64,46 @@ pub fn octets(s: &[u8]) -> usize
 
 fn wide(x: u8) -> u64 {
     x as u64
+}
+
+// Whether a question is one of those from a lowest to a highest.
+pub fn is_among(low: u8, high: u8, op: u8) -> bool
+    ensures { λ r. ⌜ r ≡ isAmong low high op ⌝ }
+{
+    if op < low {
+        return false;
+    }
+    if op <= high { true } else { false }
+}
+
+// The last 32 bits of a parameter.
+pub fn low32(n: u64) -> u32
+    ensures { λ r. ⌜ r ≡ n % 2 ^ 32 ⌝ }
+{
+    (n % 4294967296) as u32
+}
+
+// Room for an output, with the octets at its start that it has before it is written.
+pub fn room(before: &[u8]) -> [u8; 512]
+    ensures { λ r. ⌜ 512 ≡ length r ⌝ }
+    ensures { λ r. ⌜ r ≡ roomOf (now (before .entry)) ⌝ }
+{
+    let mut out = [0u8; 512];
+    octets_put::put(&mut out, 0, before);
+    out
+}
+
+// The smaller of two numbers.
+pub fn least(n: usize, most: usize) -> usize
+    ensures { λ r. ⌜ r ≡ min n most ⌝ }
+{
+    if n < most { n } else { most }
+}
+
+// A number of octets of a buffer, at most all of them.
+pub fn within(n: usize, buffer: &[u8]) -> usize
+    ensures { λ r. ⌜ r ≡ min n (length (now (buffer .entry))) ⌝ }
+    ensures { λ r. ⌜ Counts r (now (buffer .entry)) ⌝ }
+{
+    least(n, buffer.len())
 }

@@ -2,15 +2,19 @@
 //! Usage: compare [COUNT] [SEED]
 
 mod btsnoop;
+mod c_struct;
+mod damage;
 mod lent;
+mod places;
 mod prng;
+mod radiotap;
 mod report;
 
 use prng::Prng;
 use report::Report;
 use std::process::ExitCode;
 
-/// Rounds where no count is given.
+/// Rounds of each format where no count is given.
 const COUNT: u64 = 500_000;
 
 /// Seed where none is given.
@@ -45,6 +49,10 @@ fn main() -> ExitCode {
     btsnoop::ends::all(&mut session);
     for _ in 0..count {
         btsnoop::round(&mut session);
+    }
+    radiotap::ends::all(&mut session);
+    for _ in 0..count {
+        radiotap::round(&mut session);
     }
     if session.report.finish() {
         ExitCode::SUCCESS

@@ -41,4 +41,9 @@ impl Prng {
         octets.truncate(length);
         octets
     }
+
+    /// Random numbers.
+    pub fn numbers(&mut self, count: usize) -> Vec<u64> {
+        (0..count).map(|_| self.bits()).collect()
+    }
 }

@@ -1,5 +1,6 @@
 //! BTSnoop version 1: file header, records, survey, check and writers.
 
+use crate::output::room;
 use crate::refusal::{Reason, Refusal};
 use std::ops::RangeInclusive;
 
@@ -188,13 +189,6 @@ pub fn check(input: &[u8]) -> Result<File, Refusal> {
         datalink,
         records: whole.len(),
     })
-}
-
-/// The `length` octets of the output from a place on.
-fn room(output: &mut [u8], place: usize, length: usize) -> Result<&mut [u8], Refusal> {
-    let behind = output.get_mut(place..);
-    let part = behind.and_then(|behind| behind.get_mut(..length));
-    part.ok_or(Reason::NoRoom.at(0))
 }
 
 /// Writes a file header at a place; the answer is the place behind it.

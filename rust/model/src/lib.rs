@@ -1,6 +1,8 @@
 //! The rules of the capture reader as plain Rust, one module for each format.
 
 pub mod btsnoop;
+pub mod output;
+pub mod radiotap;
 pub mod refusal;
 pub mod rows;
 pub mod time;

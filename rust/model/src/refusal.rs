@@ -10,9 +10,16 @@ pub enum Reason {
     ShortRecord = 5,
     IncludedAboveOriginal = 6,
     PacketPastInput = 7,
+    RadiotapLength = 9,
+    WordPastLength = 10,
+    NinthWord = 11,
+    FieldPastLength = 12,
     NoRoom = 13,
     Time = 14,
+    Edition = 15,
     RecordPlace = 17,
+    UnknownBit = 18,
+    ValuesLength = 19,
 }
 
 /// A refusal as it is handed out.

@@ -4,12 +4,14 @@
 use crate::refusal::Refusal;
 
 pub mod btsnoop;
+pub mod radiotap;
 
 /// The kinds of an answer.
 pub const REFUSED: u64 = 0;
 pub const VALUES: u64 = 1;
 pub const END: u64 = 2;
 pub const MORE: u64 = 3;
+pub const STOPPED: u64 = 4;
 
 /// A row of a kind that is no refusal, with its values behind.
 fn row<const N: usize>(kind: u64, values: &[u64]) -> [u64; N] {
@@ -25,4 +27,12 @@ fn refused<const N: usize>(refusal: Refusal, added: &[u64]) -> [u64; N] {
     row[1] = refusal.number();
     row[2] = refusal.place as u64;
     row
+}
+
+/// A writer's row: next
+pub fn written(answer: Result<usize, Refusal>) -> [u64; 4] {
+    match answer {
+        Ok(next) => row(VALUES, &[next as u64]),
+        Err(refusal) => refused(refusal, &[]),
+    }
 }

@@ -1,8 +1,8 @@
 //! Questions about BTSnoop and time, and the model's answers.
 
-use crate::question::{decimal, hex, Question};
+use crate::question::{decimal, filled, hex, Question};
 use model::btsnoop::{self, Earlier, Fields};
-use model::rows::btsnoop as rows;
+use model::rows::{btsnoop as rows, written};
 use model::time::{self, UNIX_EPOCH, YEAR_2000};
 
 const HEADER: u8 = 1;
@@ -68,7 +68,7 @@ fn answer_write_header(question: &Question) -> String {
     let [place, datalink, ..] = question.numbers;
     let mut output = question.first.clone();
     let answer = btsnoop::write_header(&mut output, place as usize, datalink as u32);
-    format!("{} {}", decimal(&rows::written(answer)), hex(&output))
+    format!("{} {}", decimal(&written(answer)), hex(&output))
 }
 
 fn answer_write_record(question: &Question) -> String {
@@ -81,7 +81,7 @@ fn answer_write_record(question: &Question) -> String {
     };
     let mut output = question.first.clone();
     let answer = btsnoop::write_record(&mut output, place as usize, &fields, &question.second);
-    format!("{} {}", decimal(&rows::written(answer)), hex(&output))
+    format!("{} {}", decimal(&written(answer)), hex(&output))
 }
 
 /// A file header's octets.
@@ -131,11 +131,6 @@ fn three_records() -> Vec<u8> {
     octets.extend(record(&fields, 0, &[]));
     octets.extend(record(&fields, 2, &[0xAB, 0xCD]));
     octets
-}
-
-/// Distinct octets that an output starts with.
-fn filled(length: usize) -> Vec<u8> {
-    (0..length).map(|index| 0xA0 ^ index as u8).collect()
 }
 
 /// All questions.

@@ -39,6 +39,11 @@ impl Question {
     }
 }
 
+/// Distinct octets that an output starts with.
+pub fn filled(length: usize) -> Vec<u8> {
+    (0..length).map(|index| 0xA0 ^ index as u8).collect()
+}
+
 /// Numbers in decimal with a space between them.
 pub fn decimal(numbers: &[u64]) -> String {
     let texts: Vec<String> = numbers.iter().map(u64::to_string).collect();

@@ -5,7 +5,8 @@ use crate::lent::Lent;
 use crate::report::Hex;
 use crate::Session;
 use model::btsnoop::{self, Fields};
-use model::{rows::btsnoop as rows, time};
+use model::rows::{btsnoop as rows, written};
+use model::time;
 
 /// File header.
 pub fn header(session: &mut Session, input: &[u8]) {
@@ -114,7 +115,7 @@ pub fn drops(session: &mut Session, earlier: u32, later: u32) {
 pub fn write_header(session: &mut Session, output: &[u8], place: usize, datalink: u32) {
     let mut lent = Lent::new(&mut session.prng, output);
     let library = ffi::write_header(lent.lend(), place, datalink);
-    let model = rows::written(btsnoop::write_header(lent.keep(), place, datalink));
+    let model = written(btsnoop::write_header(lent.keep(), place, datalink));
     session.report.compare(
         "zalghimo_btsnoop_write_header",
         || format!("output {} place {place} datalink {datalink}", Hex(output)),
@@ -134,7 +135,7 @@ pub fn write_record(
     let mut lent = Lent::new(&mut session.prng, output);
     let mut part = Lent::new(&mut session.prng, packet);
     let library = ffi::write_record(lent.lend(), place, fields, part.lend());
-    let model = rows::written(btsnoop::write_record(lent.keep(), place, fields, packet));
+    let model = written(btsnoop::write_record(lent.keep(), place, fields, packet));
     session.report.compare(
         "zalghimo_btsnoop_write_record",
         || {

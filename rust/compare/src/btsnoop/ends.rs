@@ -1,7 +1,9 @@
 //! Questions at the exact ends of every range, asked once.
 
 use super::ask;
-use super::made::{self, Entry, DATALINKS, HUGE, TIMES, WORDS};
+use super::made::{self, Entry, DATALINKS, TIMES, WORDS};
+use crate::damage::put;
+use crate::places::HUGE;
 use crate::Session;
 use model::btsnoop::Fields;
 use model::time::{UNIX_EPOCH, YEAR_2000};
@@ -44,9 +46,9 @@ fn headers(session: &mut Session) {
     }
     for code in DATALINKS.into_iter().chain(WORDS) {
         let mut octets = one_record();
-        made::put(&mut octets, 12, &code.to_be_bytes());
+        put(&mut octets, 12, &code.to_be_bytes());
         ask::header(session, &octets);
-        made::put(&mut octets, 8, &code.to_be_bytes());
+        put(&mut octets, 8, &code.to_be_bytes());
         ask::check(session, &octets);
     }
 }
@@ -76,8 +78,8 @@ fn lengths(session: &mut Session) {
     for original in bounds.into_iter().chain(WORDS) {
         for included in bounds.into_iter().chain(WORDS) {
             let mut octets = one_record();
-            made::put(&mut octets, 16, &original.to_be_bytes());
-            made::put(&mut octets, 20, &included.to_be_bytes());
+            put(&mut octets, 16, &original.to_be_bytes());
+            put(&mut octets, 20, &included.to_be_bytes());
             ask::check(session, &octets);
             ask::record(session, &octets, 16);
             ask::survey(session, &octets, 16, 1);

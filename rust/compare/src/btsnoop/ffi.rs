@@ -1,28 +1,8 @@
 //! The library's BTSnoop and time functions, each behind a safe function.
 //! Inputs are lent mutably so that a change made to one can be seen.
 
+use crate::c_struct::{c_struct, Written};
 use model::btsnoop::Fields;
-
-/// Declares a C struct of 64-bit numbers.
-macro_rules! c_struct {
-    ($name:ident, $($field:ident: $number:ty),+) => {
-        #[repr(C)]
-        struct $name {
-            kind: u64,
-            number: u64,
-            place: u64,
-            $($field: $number),+
-        }
-
-        impl $name {
-            /// The numbers in the struct's order, signed ones as two's complement.
-            fn row<const N: usize>(self) -> [u64; N] {
-                let numbers = [self.kind, self.number, self.place, $(self.$field as u64),+];
-                std::array::from_fn(|index| numbers[index])
-            }
-        }
-    };
-}
 
 c_struct!(Header, datalink: u64);
 c_struct!(File, datalink: u64, records: u64);
@@ -40,7 +20,6 @@ c_struct!(Survey, count: u64, reached: u64);
 c_struct!(Earlier, capture: u64, packet: u64, length: u64);
 c_struct!(Time, seconds: i64, microseconds: u64);
 c_struct!(TimeField, field: i64);
-c_struct!(Written, next: u64);
 
 extern "C" {
     fn zalghimo_btsnoop_header(input: *const u8, length: usize) -> Header;

@@ -1,5 +1,7 @@
 //! Inputs: valid files, damaged ones, noise, and places in them.
 
+use crate::damage::{add_octets, change_octet, cut, put};
+use crate::places::HUGE;
 use crate::prng::Prng;
 use model::btsnoop::Fields;
 use model::time::{UNIX_EPOCH, YEAR_2000};
@@ -54,22 +56,6 @@ pub const DATALINKS: [u32; 12] = [
     0x8000_03E9,
     256 + 1001,
     u32::MAX,
-];
-
-/// Places and numbers near the largest and at other powers of two.
-pub const HUGE: [usize; 12] = [
-    usize::MAX,
-    usize::MAX - 1,
-    usize::MAX - 7,
-    usize::MAX - 15,
-    usize::MAX - 16,
-    usize::MAX - 22,
-    usize::MAX - 23,
-    usize::MAX - 24,
-    usize::MAX - 27,
-    1 << 63,
-    (1 << 63) - 1,
-    (1 << 32) + 16,
 ];
 
 /// A record to be written.
@@ -234,51 +220,11 @@ fn damaged(prng: &mut Prng) -> Made {
 /// Damages a file in one place.
 fn damage(prng: &mut Prng, made: &mut Made) {
     match prng.below(6) {
-        0 => cut(prng, made),
-        1 => change_octet(prng, made),
-        2 => add_octets(prng, made),
+        0 => cut(prng, &mut made.octets),
+        1 => change_octet(prng, &mut made.octets),
+        2 => add_octets(prng, &mut made.octets),
         3 => change_header(prng, made),
         _ => change_lengths(prng, made),
-    }
-}
-
-/// Cuts the file anywhere, or a little before its end.
-fn cut(prng: &mut Prng, made: &mut Made) {
-    let length = made.octets.len();
-    let kept = if prng.one_in(2) {
-        prng.below(length + 1)
-    } else {
-        length.saturating_sub(prng.below(30))
-    };
-    made.octets.truncate(kept);
-}
-
-/// Changes one octet.
-fn change_octet(prng: &mut Prng, made: &mut Made) {
-    if !made.octets.is_empty() {
-        let place = prng.below(made.octets.len());
-        made.octets[place] ^= 1 + prng.below(255) as u8;
-    }
-}
-
-/// Adds octets at the end or anywhere.
-fn add_octets(prng: &mut Prng, made: &mut Made) {
-    let number = 1 + prng.below(30);
-    let octets = prng.octets(number);
-    let place = if prng.one_in(2) {
-        made.octets.len()
-    } else {
-        prng.below(made.octets.len() + 1)
-    };
-    made.octets.splice(place..place, octets);
-}
-
-/// Overwrites octets where they lie inside the file.
-pub fn put(octets: &mut [u8], place: usize, part: &[u8]) {
-    if let Some(behind) = octets.get_mut(place..) {
-        if let Some(there) = behind.get_mut(..part.len()) {
-            there.copy_from_slice(part);
-        }
     }
 }
 

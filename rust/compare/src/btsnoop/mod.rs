@@ -6,9 +6,11 @@ pub mod ends;
 mod ffi;
 mod made;
 
+use crate::damage::put;
+use crate::places::room;
 use crate::prng::Prng;
 use crate::Session;
-use made::{Made, HUGE};
+use made::Made;
 use model::time::UNIX_EPOCH;
 
 /// One round over one input.
@@ -58,7 +60,7 @@ fn near_time(prng: &mut Prng, first: &Made, place: usize, second: &mut Made, oth
         return;
     };
     let time = i64::from_be_bytes(*octets).wrapping_add(prng.pick(&[0, 0, 1, -1]));
-    made::put(
+    put(
         &mut second.octets,
         other.saturating_add(16),
         &time.to_be_bytes(),
@@ -99,21 +101,6 @@ fn microseconds(prng: &mut Prng) -> u32 {
         0 => prng.pick(&[999_999, 1_000_000, 1_000_001, u32::MAX]),
         1 => prng.bits() as u32,
         _ => prng.below(1_000_000) as u32,
-    }
-}
-
-/// A place in an output for a part of a length, and the output's length.
-fn room(prng: &mut Prng, length: usize) -> (usize, usize) {
-    let place = prng.below(40);
-    let exact = place + length;
-    match prng.below(8) {
-        0 | 1 => (place, exact),
-        2 => (place, exact - 1),
-        3 => (place, exact + 1),
-        4 => (place + 1 + prng.below(9), place),
-        5 => (prng.pick(&HUGE), exact),
-        6 => (0_usize.wrapping_sub(1 + prng.below(length + 2)), exact),
-        _ => (place, exact + prng.below(40)),
     }
 }
 

@@ -81,11 +81,3 @@ pub fn time_field(answer: Result<i64, Refusal>) -> [u64; 4] {
         Err(refusal) => refused(refusal, &[]),
     }
 }
-
-/// next
-pub fn written(answer: Result<usize, Refusal>) -> [u64; 4] {
-    match answer {
-        Ok(next) => row(VALUES, &[next as u64]),
-        Err(refusal) => refused(refusal, &[]),
-    }
-}
