@@ -31,6 +31,15 @@ typedef struct { uint64_t kind, number, place; int64_t seconds; uint64_t microse
 typedef struct { uint64_t kind, number, place; int64_t field; } zalghimo_time_field;
 typedef struct { uint64_t kind, number, place, next; } zalghimo_written;
 typedef struct {
+    uint64_t kind, number, place, rf_channel;
+    int64_t signal, noise; /* dBm */
+    uint64_t offences, reference, flags;
+    uint64_t known; /* bit 0 signal, 1 noise, 2 reference address, 3 offences */
+    uint64_t pdu_type, phy;
+    uint64_t dependent; /* flags bits 12 and 13: for PDU type 1 the auxiliary kind, otherwise MIC checked and passed */
+    uint64_t packet;    /* its place */
+} zalghimo_le;
+typedef struct {
     uint64_t kind, number, place;
     uint64_t fields;     /* how many are shown */
     uint64_t frame;      /* its place */
@@ -56,6 +65,12 @@ zalghimo_written zalghimo_btsnoop_write_header(uint8_t *output, size_t length, s
 zalghimo_written zalghimo_btsnoop_write_record(uint8_t *output, size_t length, size_t place, uint32_t original,
                                                uint32_t flags, uint32_t drops, int64_t time,
                                                const uint8_t *packet, size_t packet_length);
+
+/* The LE pseudo-header. The flags alone say the PDU type, the PHY and what is known. */
+zalghimo_le zalghimo_le_read(const uint8_t *input, size_t length);
+zalghimo_written zalghimo_le_write(uint8_t *output, size_t length, size_t place, uint8_t rf_channel, int8_t signal,
+                                   int8_t noise, uint8_t offences, uint32_t reference, uint16_t flags,
+                                   const uint8_t *packet, size_t packet_length);
 
 /* Radiotap, in editions 1 to 3; edition 0 asks for the default. A header is judged whole first: one refused at a field
  * shows none. A field or word at or past the last is the end, or the stop that the reading came to. */

@@ -11,8 +11,9 @@ use Rattle.btsnoop_rules.specs.Drops.{dropsBetween}
 use Rattle.capture_time.specs.Time.{reading}
 use Rattle.radiotap_rules.specs.Reading as Radiotap
 use Rattle.radiotap_rules.specs.Reading.{fixedHeader, presenceWords, meaning, fieldsOf}
+use Rattle.le_rules.specs.Reading.{valuesIn, readingOf}
 use Rattle.proved_set.specs.ProvedSet.{Shown}
 
 pub shown : Shown
-unfolding number numberAt signed part headerJudged headerAt numbersAt recordJudged recordAt fileWalk fileAt dropsBetween reading Radiotap.reading fixedHeader presenceWords meaning fieldsOf
+unfolding number numberAt signed part headerJudged headerAt numbersAt recordJudged recordAt fileWalk fileAt dropsBetween reading Radiotap.reading fixedHeader presenceWords meaning fieldsOf valuesIn readingOf
 shown = refl

@@ -1,4 +1,4 @@
--- Document 01, "Proved set": the examples P1 to P11, and the one statement that the rules answer them so.
+-- Document 01, "Proved set": the examples P1 to P13, and the one statement that the rules answer them so.
 -- Proof: proofs/Shown.antt.
 use Prim.Native.Nat.{ℕ, _-_}
 use mathlib.Core.Path.{_≡_}
@@ -12,14 +12,16 @@ use Rattle.capture_time.specs.Time.{CaptureTime, unixEpoch, reading}
 use Rattle.radiotap_rules.specs.Reading as Radiotap
 use Rattle.radiotap_rules.specs.Reading.{fieldPast, Field, Ending, ended, stopped, Reading, refusedBefore, refusedAtField, read}
 use Rattle.radiotap_rules.specs.Table.{ourRules}
+use Rattle.le_rules.specs.Reading.{Header, readingOf}
 
 -- what an example asks: octets as a BTSnoop file, a record's time field, the drops of two records, octets as a radiotap
--- header in an edition
+-- header in an edition, octets as an LE pseudo-header and its packet
 pub data Question : Type 0 where
   asFile : List ℕ → Question
   asTime : ℤ → Question
   asDrops : (earlier later : ℕ) → Question
   asRadiotap : (edition : ℕ) → List ℕ → Question
+  asLe : List ℕ → Question
 
 -- where the fields of a radiotap header start, and how its reading ends
 pub record Starts : Type 0 where
@@ -41,6 +43,7 @@ pub data Reply : Type 0 where
   time : Answer CaptureTime → Reply
   drops : ℕ → Reply
   radiotap : Answer Starts → Reply
+  le : Answer Header → Reply
 
 abbrev pub reading123 : (edition : ℕ) → List ℕ → Reading
 reading123 edition s = Radiotap.reading ourRules edition s
@@ -50,6 +53,7 @@ replyTo (asFile s) = file (fileAt s)
 replyTo (asTime field) = time (reading field)
 replyTo (asDrops earlier later) = drops (dropsBetween earlier later)
 replyTo (asRadiotap edition s) = radiotap (startsOf (reading123 edition s))
+replyTo (asLe s) = le (readingOf s)
 
 -- an example: its input and its answer
 pub record Example : Type 0 where
@@ -149,8 +153,16 @@ P11′ =
       reply = radiotap (given (record { places = 8 ∷ []; ending = stopped 0 14 }));
     }
 
+-- P12: LE, channel 40, as 14 octets, all others 0
+abbrev pub P12 : Example
+P12 = record { question = asLe (40 ∷ replicate 13 0x00); reply = le (refused 8 0) }
+
+-- P13: LE, channel 0, flags 0xC000, as 14 octets, all others 0
+abbrev pub P13 : Example
+P13 = record { question = asLe (replicate 8 0x00 ++ (0x00 ∷ 0xc0 ∷ replicate 4 0x00)); reply = le (refused 8 8) }
+
 abbrev pub examples : List Example
-examples = P1 ∷ P2 ∷ P3 ∷ P4 ∷ P5 ∷ P6 ∷ P7 ∷ P8 ∷ P9 ∷ P10 ∷ P10′ ∷ P11 ∷ P11′ ∷ []
+examples = P1 ∷ P2 ∷ P3 ∷ P4 ∷ P5 ∷ P6 ∷ P7 ∷ P8 ∷ P9 ∷ P10 ∷ P10′ ∷ P11 ∷ P11′ ∷ P12 ∷ P13 ∷ []
 
 -- the rules answer every example as the paper does
 abbrev pub Shown : Type 0

@@ -1,4 +1,4 @@
--- The stored questions: how many octets one takes (rust/README.md has the format), which ones are of a kind, and the room for an output.
+-- The stored questions: how many octets one takes (rust/README.md has the format), which are of a kind, and the room for an output.
 use Prim.Native.Nat.{ℕ, _+_}
 use mathlib.Core.Bool.{Bool, cond, _&&_}
 use mathlib.Core.List.{List}
@@ -15,10 +15,10 @@ wholeLength s = 49 + numberAt big 4 s 41 + numberAt big 4 s 45
 unfoldable pub questionLength : List ℕ → ℕ
 questionLength s = cond (leb 49 (length s)) (cond (leb (wholeLength s) (length s)) (wholeLength s) 0) 0
 
--- a question of the kind whose questions are those from low to high
+-- whether a question is one of those from low to high
 unfoldable pub isAmong : ℕ → ℕ → ℕ → Bool
 isAmong low high op = leb low op && leb op high
 
--- the room for an output: the octets that it has before it is written, then zeros; only zeros where they are too many
+-- the room for an output: the octets that stand there before the writing, then zeros; only zeros where they are too many
 unfoldable pub roomOf : List ℕ → List ℕ
 roomOf before = put (replicate 512 0) 0 before

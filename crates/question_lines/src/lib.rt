@@ -1,4 +1,5 @@
-// The stored questions of the independent program, and the lines that answer them (rust/README.md has the format).
+// The stored questions of the independent program, the lines that answer them (rust/README.md has the format), and the
+// parameters and rooms that every kind of question needs.
 ghost use mathlib.Core.Path.{_≡_};
 ghost use Prim.Native.Nat.{_%_, _^_, min};
 ghost use lib.ListN.{length};
@@ -83,7 +84,7 @@ pub fn low32(n: u64) -> u32
     (n % 4294967296) as u32
 }
 
-// Room for an output, with the octets at its start that it has before it is written.
+// Room for an output, with the octets at its start that stand there before the writing.
 pub fn room(before: &[u8]) -> [u8; 512]
     ensures { λ r. ⌜ 512 ≡ length r ⌝ }
     ensures { λ r. ⌜ r ≡ roomOf (now (before .entry)) ⌝ }

@@ -37,7 +37,7 @@ shortRecord = 5
 abbrev pub includedLength : ℕ
 includedLength = 6
 
--- 7: the packet octets run past the input
+-- 7: the packet octets run past the input, or an LE packet is too short
 abbrev pub pastInput : ℕ
 pastInput = 7
 

@@ -22,7 +22,7 @@ pub const DATALINK: u32 = 4;
 pub const SHORT_RECORD: u32 = 5;
 // The included length is above the original length.
 pub const INCLUDED_LENGTH: u32 = 6;
-// The packet octets run past the input.
+// The packet octets run past the input, or an LE packet is too short.
 pub const PACKET: u32 = 7;
 // The output has no room from the given place.
 pub const NO_ROOM: u32 = 13;

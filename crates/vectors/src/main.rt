@@ -52,5 +52,8 @@ fn ask<'a>(op: u8, q: &[u8], first: &'a [u8], second: &'a [u8]) {
     if answers_radiotap::answer(op, q, first, second) {
         return;
     }
-    answers_radiotap_writing::answer(op, q, first, second);
+    if answers_radiotap_writing::answer(op, q, first, second) {
+        return;
+    }
+    answers_le::answer(op, q, first, second);
 }

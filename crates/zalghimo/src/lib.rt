@@ -15,6 +15,9 @@ ghost use Rattle.radiotap_rules.specs.Answers.{wordNumber, summary, listedInto}
 ghost use Rattle.radiotap_rules.specs.Writing.{writing as writingIn, written as writtenIn};
 ghost use Rattle.boundary_radiotap.specs.Rows.{radiotapRow, wordRow, fieldRow};
 ghost use Rattle.boundary.specs.Rows.{headerRow, fileRow, recordRow, surveyRow, earlierRow, timeRow, timeFieldRow, writtenRow};
+
+pub mod le;
+
 use boundary::Earlier;
 use boundary::File;
 use boundary::Header;

@@ -4,6 +4,7 @@
 mod btsnoop;
 mod c_struct;
 mod damage;
+mod le;
 mod lent;
 mod places;
 mod prng;
@@ -53,6 +54,10 @@ fn main() -> ExitCode {
     radiotap::ends::all(&mut session);
     for _ in 0..count {
         radiotap::round(&mut session);
+    }
+    le::ends::all(&mut session);
+    for _ in 0..count {
+        le::round(&mut session);
     }
     if session.report.finish() {
         ExitCode::SUCCESS

@@ -1,6 +1,7 @@
 //! The rules of the capture reader as plain Rust, one module for each format.
 
 pub mod btsnoop;
+pub mod le;
 pub mod output;
 pub mod radiotap;
 pub mod refusal;

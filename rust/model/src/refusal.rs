@@ -10,6 +10,7 @@ pub enum Reason {
     ShortRecord = 5,
     IncludedAboveOriginal = 6,
     PacketPastInput = 7,
+    LeValue = 8,
     RadiotapLength = 9,
     WordPastLength = 10,
     NinthWord = 11,

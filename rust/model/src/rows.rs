@@ -4,6 +4,7 @@
 use crate::refusal::Refusal;
 
 pub mod btsnoop;
+pub mod le;
 pub mod radiotap;
 
 /// The kinds of an answer.

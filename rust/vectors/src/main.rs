@@ -2,6 +2,7 @@
 //! Usage: vectors STDIN STDOUT
 
 mod btsnoop;
+mod le;
 mod question;
 mod radiotap;
 
@@ -14,7 +15,7 @@ const LIMIT: usize = 60_000;
 
 /// The questions of all formats.
 fn questions() -> Vec<Question> {
-    let formats = [btsnoop::questions(), radiotap::questions()];
+    let formats = [btsnoop::questions(), radiotap::questions(), le::questions()];
     formats.into_iter().flatten().collect()
 }
 
@@ -23,6 +24,7 @@ fn answer(question: &Question) -> String {
     let line = match question.op {
         1..=10 => btsnoop::answer(question),
         11..=15 => radiotap::answer(question),
+        16..=17 => le::answer(question),
         op => panic!("no such op: {op}"),
     };
     format!("{} {line}\n", question.op)

@@ -1,0 +1,54 @@
+-- `le_header::packet` meets its contract: by what the reader answers.
+-- Assumes nothing.
+use mathlib.Core.Path.{sym, ap, _∙_}
+use lib.ListN.{length, drop, length-drop}
+use lib.Seq.{take-all}
+use denote.Ref.{now}
+use native.Mathlib.Omega.{arith}
+use Rattle.octets.specs.Parts.{part}
+use Rattle.le_rules.specs.Reading.{headerLength, packetOf}
+use Rattle.le_header.specs.Says.{leSays}
+use borrow.Author.Needs.{needs}
+use Rattle.le_header.proofs.packet.Statement.{statement}
+use Rattle.le_header.proofs.packet.Tie as tie
+
+read-requires : tie.Need-read-requires
+read-requires c κs = search needs
+
+enum-told : tie.Need-enum-told
+enum-told c = search needs
+
+slice-aggregate-result : tie.Need-slice-aggregate-result
+slice-aggregate-result c = search needs
+
+enum-told-2 : tie.Need-enum-told-2
+enum-told-2 c = search needs
+
+part-requires : tie.Need-part-requires
+part-requires c κs = search needs
+
+returns : tie.Need-returns
+returns c =
+    let s = now (c .before .before .before .before .before .args .s) in
+    sym (ap (packetOf s) (sym (c .before .before .before .read .ensures) ∙ ap leSays (c .before .enum-told .given .1)))
+
+returns-2 : tie.Need-returns-2
+unfolding part
+returns-2 c =
+    let s = now (c .before .before .before .before .before .args .s) in
+    let rest = take-all (length s) (drop headerLength s) (omega (arith, length-drop headerLength s)) in
+    c .part .ensures
+    ∙ rest
+    ∙ sym (ap (packetOf s) (sym (c .before .before .before .read .ensures) ∙ ap leSays (c .before .enum-told2 .given .1)))
+
+pub packet-spec : {M : Type 1} → statement M
+packet-spec =
+    tie.close
+    (tie.spec
+    read-requires
+    enum-told
+    slice-aggregate-result
+    enum-told-2
+    part-requires
+    returns
+    returns-2)

@@ -1,0 +1,146 @@
+// Reading the LE pseudo-header: ten octets, a packet, and what the flags tell.
+ghost use mathlib.Core.Path.{_≡_};
+ghost use Rattle.le_rules.specs.Reading.{within as withinRange, valuesIn, rangeOf, judged as judgedOf, readingOf, packetIn};
+ghost use Rattle.le_header.specs.Says.{leSays};
+
+pub mod flags;
+pub mod ranges;
+
+use le_rules::Values;
+use refusals::Refusal;
+
+// The length of the pseudo-header, which is the place of the packet.
+pub const HEADER_LENGTH: usize = 10;
+
+// The PDU type (flags bits 7 to 9), in the order of source document 001, counted from 0.
+pub enum PduType {
+    AdvertisingOrData,
+    AuxiliaryAdvertising,
+    DataMasterToSlave,
+    DataSlaveToMaster,
+    ConnectedIsochronousMasterToSlave,
+    ConnectedIsochronousSlaveToMaster,
+    BroadcastIsochronous,
+    Reserved,
+}
+
+// The PHY (flags bits 14 and 15), in the order of source document 001, counted from 0.
+pub enum Phy {
+    Le1M,
+    Le2M,
+    LeCoded,
+    Reserved,
+}
+
+// The auxiliary kind (flags bits 12 and 13 for PDU type 1), in the order of source document 001, counted from 0.
+pub enum AuxiliaryKind {
+    AuxAdvInd,
+    AuxChainInd,
+    AuxSyncInd,
+    AuxScanRsp,
+}
+
+// What flags bits 12 and 13 tell: for PDU type 1 the auxiliary kind, otherwise whether the MIC was checked and passed.
+pub enum Dependent {
+    Auxiliary(AuxiliaryKind),
+    Mic { checked: bool, passed: bool },
+}
+
+// Whether a value is known.
+pub enum Knowledge {
+    Known,
+    Unknown,
+}
+
+// What the flags tell: each of four values as known or not, the PDU type, the PHY, and the bits that depend on the type.
+pub struct Told {
+    pub signal: Knowledge,
+    pub noise: Knowledge,
+    pub reference: Knowledge,
+    pub offences: Knowledge,
+    pub pdu: PduType,
+    pub phy: Phy,
+    pub dependent: Dependent,
+}
+
+// A value out of range: an RF channel above 39, PDU type 7, PHY 3.
+pub enum Fault {
+    ChannelAbove,
+    PduTypeReserved,
+    PhyReserved,
+}
+
+// Channel and flags judged: the first fault, or none.
+pub enum Range {
+    OutOf(Fault),
+    Within,
+}
+
+// What reading a pseudo-header answers: the refusal, or its values and what its flags tell.
+pub enum LeAnswer {
+    Refused(Refusal),
+    Read { values: Values, told: Told },
+}
+
+// Reads the pseudo-header at the start of an input, whose rest is the packet.
+pub fn read(s: &[u8]) -> LeAnswer
+    ensures { λ r. ⌜ leSays r ≡ readingOf (now (s .entry)) ⌝ }
+{
+    if s.len() < HEADER_LENGTH {
+        return LeAnswer::Refused(Refusal {
+            number: refusals::SHORT_HEADER,
+            place: s.len(),
+        });
+    }
+    judged(s.len() - HEADER_LENGTH, values(s))
+}
+
+// The values in the ten octets; an octet past the input's end counts as 0.
+fn values(s: &[u8]) -> Values
+    ensures { λ r. ⌜ r ≡ valuesIn (now (s .entry)) ⌝ }
+{
+    Values {
+        channel: octets::octet(s, 0, 0),
+        signal: twos_complement::signed8(octets::octet(s, 1, 0)),
+        noise: twos_complement::signed8(octets::octet(s, 2, 0)),
+        offences: octets::octet(s, 3, 0),
+        reference: octets::le32(s, 4),
+        flags: octets::le16(s, 8),
+    }
+}
+
+// Judges values and the length of the packet behind them.
+fn judged(packet: usize, values: Values) -> LeAnswer
+    ensures { λ r. ⌜ leSays r ≡ judgedOf packet values (rangeOf (values .channel) (values .flags)) ⌝ }
+{
+    match ranges::judge(values.channel, values.flags) {
+        Range::OutOf(fault) => LeAnswer::Refused(ranges::refusal(fault)),
+        Range::Within => within(packet, values),
+    }
+}
+
+// The answer for values in range, by the length of the packet.
+fn within(packet: usize, values: Values) -> LeAnswer
+    ensures { λ r. ⌜ leSays r ≡ judgedOf packet values withinRange ⌝ }
+{
+    if packet < ranges::least_packet(values.flags) {
+        return LeAnswer::Refused(Refusal {
+            number: refusals::PACKET,
+            place: HEADER_LENGTH,
+        });
+    }
+    LeAnswer::Read {
+        values,
+        told: flags::told(values.flags),
+    }
+}
+
+// The packet of a header that is read, as a part of the input; empty where the header is refused.
+pub fn packet(s: &[u8]) -> &[u8]
+    ensures { λ r. ⌜ now r ≡ packetIn (now (s .entry)) ⌝ }
+{
+    match read(s) {
+        LeAnswer::Refused(_) => &s[..0],
+        LeAnswer::Read { values: _, told: _ } => octets::part(s, HEADER_LENGTH, s.len()),
+    }
+}
