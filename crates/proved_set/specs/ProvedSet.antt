@@ -1,6 +1,6 @@
 -- Document 01, "Proved set": the examples P1 to P13, and the one statement that the rules answer them so.
 -- Proof: proofs/Shown.antt.
-use Prim.Native.Nat.{ℕ, _-_}
+use Prim.Native.Nat.{ℕ, zero, suc, _-_}
 use mathlib.Core.Path.{_≡_}
 use mathlib.Core.List.{List, [], _∷_, _++_, map}
 use lib.ListN.{take, set, replicate}
@@ -109,20 +109,28 @@ abbrev pub oneWord : (size byte0 byte1 : ℕ) → List ℕ
 oneWord size byte0 byte1 =
     0x00 ∷ 0x00 ∷ size ∷ 0x00 ∷ byte0 ∷ byte1 ∷ 0x00 ∷ 0x00 ∷ replicate (size - 8) 0x00
 
--- P8: one word 0x0000002F, length 23
-abbrev pub P8 : Example
-P8 =
+-- the editions that are served, 0 as the one it asks for
+abbrev pub editionsTo : ℕ → List ℕ
+editionsTo zero = 0 ∷ []
+editionsTo (suc n) = suc n ∷ editionsTo n
+
+abbrev pub servedEditions : List ℕ
+servedEditions = editionsTo (ourRules .newest)
+
+-- P8: one word 0x0000002F, length 23, in an edition
+abbrev pub P8 : (edition : ℕ) → Example
+P8 edition =
     record {
-      question = asRadiotap 0 (oneWord 23 0x2f 0x00);
+      question = asRadiotap edition (oneWord 23 0x2f 0x00);
       reply = radiotap (given (record { places = 8 ∷ 16 ∷ 17 ∷ 18 ∷ 22 ∷ []; ending = ended }));
     }
 
--- P9: words 0xA0000001, 0x00000020, length 25
-abbrev pub P9 : Example
-P9 =
+-- P9: words 0xA0000001, 0x00000020, length 25, in an edition
+abbrev pub P9 : (edition : ℕ) → Example
+P9 edition =
     record {
       question =
-          asRadiotap 0
+          asRadiotap edition
           (0x00 ∷ 0x00 ∷ 25 ∷ 0x00 ∷ 0x01 ∷ 0x00 ∷ 0x00 ∷ 0xa0 ∷ 0x20 ∷ 0x00 ∷ 0x00 ∷ 0x00 ∷ replicate 13 0x00);
       reply = radiotap (given (record { places = 16 ∷ 24 ∷ []; ending = ended }));
     }
@@ -161,8 +169,12 @@ P12 = record { question = asLe (40 ∷ replicate 13 0x00); reply = le (refused 8
 abbrev pub P13 : Example
 P13 = record { question = asLe (replicate 8 0x00 ++ (0x00 ∷ 0xc0 ∷ replicate 4 0x00)); reply = le (refused 8 8) }
 
+-- P8 and P9 in every served edition
 abbrev pub examples : List Example
-examples = P1 ∷ P2 ∷ P3 ∷ P4 ∷ P5 ∷ P6 ∷ P7 ∷ P8 ∷ P9 ∷ P10 ∷ P10′ ∷ P11 ∷ P11′ ∷ P12 ∷ P13 ∷ []
+examples =
+    (P1 ∷ P2 ∷ P3 ∷ P4 ∷ P5 ∷ P6 ∷ P7 ∷ [])
+    ++ (map P8 servedEditions
+    ++ (map P9 servedEditions ++ (P10 ∷ P10′ ∷ P11 ∷ P11′ ∷ P12 ∷ P13 ∷ [])))
 
 -- the rules answer every example as the paper does
 abbrev pub Shown : Type 0
