@@ -107,13 +107,13 @@ module _ (rules : Rules) (edition : ℕ) (s : List ℕ) (number : ℕ) where
                 ∙ counted size fields kept g (walkFrom rules edition s (f .ws) c′);
           }
 
-      -- the field of the number is kept
       -- a field that ends where the cursor behind it is free lies inside the input
       pub shown-inside : (start n : ℕ) → size ≤ length s → c′ .at ≡ start + n → start + n ≤ length s
       shown-inside start n input e =
           let m = moved-behind rules edition s c (f .ws) (positionsLeft c) (c .position) g c′ (here (met g c′) h) in
           omega (arith, m .inside, f .same, input, e)
 
+      -- the field of the number is kept
       pub keeps : fields ≡ number → SoFar rules edition s size number c′ (fields + 1) g
       keeps e =
           subst (SoFar rules edition s size number c′ (fields + 1))
