@@ -1,0 +1,84 @@
+-- `tally::updated` meets its contract: what the record adds, and whether the sums fit, decide the update.
+-- Assumes nothing.
+use native.Mathlib.Omega.{arith}
+use mathlib.Core.Path.{sym, ap, _∙_}
+use Rattle.tally_rules.specs.Tally.{oneIf}
+use Rattle.tally.proofs.TallyLaws.{Fits, fit, update-done, update-refused}
+use borrow.Author.Needs.{needs}
+use Rattle.tally.proofs.updated.Statement.{statement}
+use Rattle.tally.proofs.updated.Tie as tie
+
+-- all sums fit where the test holds
+fitting : (c : tie.Then1) → let a = c .before .before .before .before .before .before .before .before .args in Fits (a .tally) (c .before .before .before .before .before .before .one-if .result) (c .before .before .before .before .one-if2 .result) (a .entry .included) (c .before .before .lost-by .result)
+fitting c =
+    let a = c .before .before .before .before .before .before .before .before .args in
+    fit (a .tally) (c .before .before .before .before .before .before .one-if .result) (c .before .before .before .before .one-if2 .result) (a .entry .included) (c .before .before .lost-by .result) (sym (c .before .fits2 .ensures) ∙ c .if1 .taken)
+
+received-requires : tie.Need-received-requires
+received-requires c κs = search needs
+
+one-if-requires : tie.Need-one-if-requires
+one-if-requires c κs = search needs
+
+command-requires : tie.Need-command-requires
+command-requires c κs = search needs
+
+one-if-requires-2 : tie.Need-one-if-requires-2
+one-if-requires-2 c κs = search needs
+
+cast-octets : tie.Need-cast-octets
+cast-octets c = search needs
+
+lost-by-requires : tie.Need-lost-by-requires
+lost-by-requires c κs = search needs
+
+fits-requires : tie.Need-fits-requires
+fits-requires c κs = search needs
+
+add-t10 : tie.Need-add-t10
+add-t10 c = omega (arith, fitting (c .before) .records)
+
+add-t11 : tie.Need-add-t11
+add-t11 c = omega (arith, fitting (c .before .before) .received)
+
+add-t12 : tie.Need-add-t12
+add-t12 c = omega (arith, fitting (c .before .before .before) .commands)
+
+add-t13 : tie.Need-add-t13
+add-t13 c = omega (arith, fitting (c .before .before .before .before) .octets)
+
+add-t14 : tie.Need-add-t14
+add-t14 c = omega (arith, fitting (c .before .before .before .before .before) .lost)
+
+returns : tie.Need-returns
+returns c =
+    let a = c .before .before .before .before .before .before .before .before .before .before .before .before .before .args in
+    update-done (a .tally) (a .entry) (c .before .before .before .before .before .before .before .before .before .before .before .one-if .result) (c .before .before .before .before .before .before .before .before .before .one-if2 .result) (c .before .before .before .before .before .before .before .lost-by .result)
+    (c .before .before .before .before .before .before .before .before .before .before .before .one-if .ensures ∙ ap oneIf (c .before .before .before .before .before .before .before .before .before .before .before .before .received .ensures)) (c .before .before .before .before .before .before .before .before .before .one-if2 .ensures ∙ ap oneIf (c .before .before .before .before .before .before .before .before .before .before .command .ensures)) (c .before .before .before .before .before .before .before .lost-by .ensures)
+    (sym (c .before .before .before .before .before .before .fits2 .ensures) ∙ c .before .before .before .before .before .if1 .taken)
+
+returns-2 : tie.Need-returns-2
+returns-2 c =
+    let a = c .before .before .before .before .before .before .before .before .args in
+    update-refused (a .tally) (a .entry) (c .before .before .before .before .before .before .one-if .result) (c .before .before .before .before .one-if2 .result) (c .before .before .lost-by .result)
+    (c .before .before .before .before .before .before .one-if .ensures ∙ ap oneIf (c .before .before .before .before .before .before .before .received .ensures)) (c .before .before .before .before .one-if2 .ensures ∙ ap oneIf (c .before .before .before .before .before .command .ensures)) (c .before .before .lost-by .ensures)
+    (sym (c .before .fits2 .ensures) ∙ c .if1 .left)
+
+pub updated-spec : {M : Type 1} → statement M
+updated-spec =
+    tie.close
+    (tie.spec
+    received-requires
+    one-if-requires
+    command-requires
+    one-if-requires-2
+    cast-octets
+    lost-by-requires
+    fits-requires
+    add-t10
+    add-t11
+    add-t12
+    add-t13
+    add-t14
+    returns
+    returns-2)
