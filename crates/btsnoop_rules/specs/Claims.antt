@@ -1,18 +1,18 @@
 -- What follows from the rules for whole files: acceptance, the walk, both round trips, and surveys in turn.
 -- Proofs: proofs/Files.antt and proofs/RoundTrips.antt.
-use Prim.Native.Nat.{ℕ, _+_, _-_, _^_, _≤_, _<_}
+use Prim.Native.Nat.{ℕ, _+_, _^_, _≤_, _<_}
 use mathlib.Core.Path.{_≡_}
 use mathlib.Core.Bool.{true}
-use mathlib.Core.List.{List, [], _∷_, map}
+use mathlib.Core.List.{List, [], _∷_}
 use lib.ListN.{length, take, drop}
 use lib.Signed.{mag}
 use Rattle.refusals.specs.Refusals.{Answer, refused, given}
 use Rattle.octets.specs.Numbers.{Octets}
 use Rattle.octets.specs.Parts.{part}
-use Rattle.tiling.specs.Tiling.{Next, Placed, Ending, ended, Walk, walk, items, ending, Survey, Tiles}
+use Rattle.tiling.specs.Tiling.{Next, Placed, ended, walk, items, ending, Tiles}
 use Rattle.tiling.specs.Claims.{Reached, Final, inTurn, sum}
 use Rattle.btsnoop_rules.specs.Header.{headerLength, served, headerAt}
-use Rattle.btsnoop_rules.specs.Record.{recordLength, Found, end, whole, recordAt, packetAt, Record, recordStep, WholeAt}
+use Rattle.btsnoop_rules.specs.Record.{recordLength, end, whole, recordAt, packetAt, Record, recordStep, WholeAt}
 use Rattle.btsnoop_rules.specs.File.{surveyAt, fileWalk, File, fileAt}
 use Rattle.btsnoop_rules.specs.Writing.{headerWriting, headerWritten, recordWriting, recordWritten}
 

@@ -3,7 +3,7 @@ use Prim.Native.Nat.{ℕ}
 use mathlib.Core.Bool.{Bool, true, false, cond, _&&_}
 use mathlib.Core.List.{List, [], _∷_}
 use lib.ListN.{length}
-use lib.Dec.{leb, ltb, eqb}
+use lib.Dec.{leb, eqb}
 use Rattle.refusals.specs.Refusals.{Answer, refused, given, shortHeader, identification, version, datalink}
 use Rattle.octets.specs.Numbers.{big, octetsAt, numberAt}
 

@@ -1,5 +1,5 @@
 -- Two's complement: the signed number that bits stand for, and back.
-use Prim.Native.Nat.{ℕ, suc, pred, _-_, _^_}
+use Prim.Native.Nat.{ℕ, suc, _-_, _^_}
 use lib.IntN.{ℤ, pos, negsuc}
 use lib.Dec.{ltb}
 use mathlib.Core.Bool.{cond}

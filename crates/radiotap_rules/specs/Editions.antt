@@ -6,7 +6,7 @@ use mathlib.Core.Logic.{_↔_, _⊎_}
 use mathlib.Core.List.{List, [], _∷_, _++_}
 use lib.ListN.{length}
 use Rattle.radiotap_rules.specs.Rules.{Rules, rowOf, knows, tableOk, editionTaken, served}
-use Rattle.radiotap_rules.specs.Reading.{Field, Ending, ended, stopped, Reading, refusedBefore, refusedAtField, read, reading, FieldAnswer, theField, noField, fieldOf}
+use Rattle.radiotap_rules.specs.Reading.{Field, Ending, stopped, Reading, refusedBefore, refusedAtField, read, reading, noField, fieldOf}
 
 -- of two editions, the older by what each is taken for; of two equal ones either is
 abbrev pub Older : Rules → (older newer : ℕ) → Type 0

@@ -1,8 +1,8 @@
 -- Document 01, "Radiotap": the table of fields, as rules that a reading is given.
 use Prim.Native.Nat.{ℕ}
-use mathlib.Core.Bool.{Bool, true, false, cond, not, _&&_, _||_}
+use mathlib.Core.Bool.{Bool, true, cond, not, _&&_, _||_}
 use mathlib.Core.List.{List, [], _∷_}
-use lib.ListN.{getD, length}
+use lib.ListN.{getD}
 use lib.Dec.{leb, ltb, eqb}
 
 -- a row of the table: alignment, size, first edition that knows the field (0: known to none)

@@ -3,12 +3,12 @@ use Prim.Native.Nat.{ℕ, zero, suc, _+_, _-_}
 use mathlib.Core.Bool.{Bool, true, false, cond, _&&_}
 use mathlib.Core.List.{List, [], _∷_, _++_}
 use lib.ListN.{length, take, drop, replicate}
-use lib.Dec.{leb, eqb}
+use lib.Dec.{eqb}
 use Rattle.refusals.specs.Refusals.{Answer, refused, given, afterWrite, noRoom}
 use Rattle.octets.specs.Numbers.{little, octetsOf}
 use Rattle.octets.specs.Parts.{splice, hasRoom}
 use Rattle.radiotap_rules.specs.Rules.{Row, Rules, editionTaken, served}
-use Rattle.radiotap_rules.specs.Reading.{editionAbove, fixedLength, bitSet, wordBits, wordAt, bitAt, Meaning, nothing, unknownHere, field, meaning, aligned, Field}
+use Rattle.radiotap_rules.specs.Reading.{editionAbove, fixedLength, bitSet, wordBits, bitAt, Meaning, nothing, unknownHere, field, meaning, aligned, Field}
 
 -- 18: a presence bit that the edition doesn't know, bits 29 to 31 included
 abbrev pub unknownBit : ℕ
