@@ -13,7 +13,7 @@ use Rattle.octets.specs.Numbers.{big, octetsOf}
 use Rattle.octets.specs.Signed.{unsigned}
 use Rattle.octets.specs.Parts.{splice, put}
 use Rattle.octets.proofs.Laws.{written}
-use Rattle.octets.proofs.PartLaws.{put-room, length-splice, splice-splice}
+use Rattle.octets.proofs.PartLaws.{put-room, splice-next, put-next}
 use Rattle.btsnoop_rules.specs.Header.{headerLength, served}
 use Rattle.btsnoop_rules.specs.Record.{recordLength}
 use Rattle.btsnoop_rules.specs.Writing.{headerOctets, headerWriting, headerWritten, recordOctets, recordWriting, recordWritten}
@@ -23,22 +23,12 @@ pub number-long : (w n : ℕ) → length (octetsOf big w n) ≡ w
 number-long w n = written big w n .long
 
 module _ (out : List ℕ) (at n : ℕ) (xs : List ℕ) (long : length xs ≡ n) where
-  -- a splice where another ends
-  pub splice-next : (ys : List ℕ) → at ≤ length out → splice (splice out at xs) (at + n) ys ≡ splice out at (xs ++ ys)
-  splice-next ys h = rw (← long) (splice-splice out at xs ys h)
-
-  -- octets put where a splice ends
-  pub put-next : (ys : List ℕ) → at + n + length ys ≤ length out → put (splice out at xs) (at + n) ys ≡ splice out at (xs ++ ys)
-  put-next ys h =
-      let same : length (splice out at xs) ≡ length out = length-splice out at xs (omega arith) in
-      put-room (splice out at xs) (at + n) ys (omega arith) ∙ splice-next ys (omega arith)
-
   -- a number put behind octets
   pub put-number : {l m : List ℕ} (v y : ℕ) → at + n + v ≤ length out → l ≡ put out at xs → m ≡ put l (at + n) (octetsOf big v y)
       → m ≡ splice out at (xs ++ octetsOf big v y)
   put-number {l} {m} v y h el em =
       let first : l ≡ splice out at xs = el ∙ put-room out at xs (omega arith) in
-      rw first at em ∙ put-next (octetsOf big v y) (omega (arith, number-long v y))
+      rw first at em ∙ put-next out at n xs long (octetsOf big v y) (omega (arith, number-long v y))
 
 -- two numbers put behind octets
 pub put-numbers : (out : List ℕ) (at n : ℕ) (xs : List ℕ) → length xs ≡ n → {l m p : List ℕ} (v y w z : ℕ) → at + n + v + w ≤ length out

@@ -9,17 +9,10 @@ use Rattle.octets.specs.Numbers.{little, octetsOf}
 use Rattle.octets.specs.Signed.{unsigned}
 use Rattle.octets.specs.Parts.{splice, put}
 use Rattle.octets.proofs.Laws.{written}
-use Rattle.octets.proofs.PartLaws.{put-room, length-splice, splice-splice}
+use Rattle.octets.proofs.PartLaws.{put-room, put-next}
 use Rattle.le_rules.specs.declared.Values.{Values}
 use Rattle.le_rules.specs.Reading.{headerLength}
 use Rattle.le_rules.specs.Writing.{headerOctets, octetsFor}
-
--- octets put where a splice ends
-put-next : (out : List ℕ) (at n : ℕ) (xs ys : List ℕ) → length xs ≡ n → at + n + length ys ≤ length out
-    → put (splice out at xs) (at + n) ys ≡ splice out at (xs ++ ys)
-put-next out at n xs ys long h =
-    let same : length (splice out at xs) ≡ length out = length-splice out at xs (omega arith) in
-    put-room (splice out at xs) (at + n) ys (omega arith) ∙ rw (← long) (splice-splice out at xs ys (omega arith))
 
 number-long : (w n : ℕ) → length (octetsOf little w n) ≡ w
 number-long w n = written little w n .long
@@ -46,12 +39,12 @@ module _ (out : List ℕ) (at : ℕ) (v : Values) where
       let two : length flags ≡ 2 = number-long 2 (v .flags) in
       let eight : length front ≡ 8 = omega (arith, four) in
       let first : l ≡ splice out at (singleOctets v) = el ∙ put-room out at (singleOctets v) (omega arith) in
-      let second : m ≡ splice out at front = em ∙ rw first (put-next out at 4 (singleOctets v) reference refl (omega arith)) in
-      ep ∙ rw second (put-next out at 8 front flags eight (omega arith))
+      let second : m ≡ splice out at front = em ∙ rw first (put-next out at 4 (singleOctets v) refl reference (omega arith)) in
+      ep ∙ rw second (put-next out at 8 front eight flags (omega arith))
 
   -- the packet behind the header
   pub packet-behind : {l m : List ℕ} (packet : List ℕ) → at + (headerLength + length packet) ≤ length out
       → l ≡ splice out at (headerOctets v) → m ≡ put l (at + headerLength) packet
       → m ≡ splice out at (octetsFor v packet)
   packet-behind {l} {m} packet h el em =
-      em ∙ rw el (put-next out at headerLength (headerOctets v) packet (header-long v) (omega arith))
+      em ∙ rw el (put-next out at headerLength (headerOctets v) (header-long v) packet (omega arith))

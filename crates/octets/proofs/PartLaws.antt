@@ -81,6 +81,18 @@ splice-splice out at xs ys h =
     ∙ ap (λ (l : List ℕ). head ++ ys ++ l) back
     ∙ ap (λ (l : List ℕ). l ++ drop (at + length (xs ++ ys)) out) (append-assoc (take at out) xs ys)
 
+-- the same by the length of the first
+module _ (out : List ℕ) (at n : ℕ) (xs : List ℕ) (long : length xs ≡ n) where
+  -- a splice where another ends
+  pub splice-next : (ys : List ℕ) → at ≤ length out → splice (splice out at xs) (at + n) ys ≡ splice out at (xs ++ ys)
+  splice-next ys h = rw (← long) (splice-splice out at xs ys h)
+
+  -- octets put where a splice ends
+  pub put-next : (ys : List ℕ) → at + n + length ys ≤ length out → put (splice out at xs) (at + n) ys ≡ splice out at (xs ++ ys)
+  put-next ys h =
+      let same : length (splice out at xs) ≡ length out = length-splice out at xs (omega arith) in
+      put-room (splice out at xs) (at + n) ys (omega arith) ∙ splice-next ys (omega arith)
+
 -- inside the input, octets read one by one are a part of it
 pub octets-part : (s : List ℕ) (at after n : ℕ) → at + after + n ≤ length s → octetsAfter s at after n ≡ part s (at + after) n
 unfolding part

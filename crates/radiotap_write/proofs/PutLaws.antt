@@ -11,7 +11,7 @@ use lib.Seq.{drop-drop}
 use Rattle.octets.specs.Numbers.{little, octetsOf}
 use Rattle.octets.specs.Parts.{part, splice, put}
 use Rattle.octets.proofs.Laws.{written}
-use Rattle.octets.proofs.PartLaws.{length-part, put-room, length-splice, splice-splice}
+use Rattle.octets.proofs.PartLaws.{length-part, put-room, length-splice, splice-splice, put-next}
 use Rattle.radiotap_rules.specs.Rules.{Rules}
 use Rattle.radiotap_rules.specs.Reading.{fixedLength, wordBits}
 use Rattle.radiotap_rules.specs.Answers.{unknownField, layOf}
@@ -24,14 +24,6 @@ pub take-pad : (m n : ℕ) → n ≤ m → take {A = ℕ} n (replicate m 0) ≡ 
 take-pad m zero h = refl
 take-pad zero (suc n) h = absurd (omega arith)
 take-pad (suc m) (suc n) h = ap (λ (l : List ℕ). 0 ∷ l) (take-pad m n (omega arith))
-
--- octets put where a splice ends
-put-next : (out : List ℕ) (at n : ℕ) (xs ys : List ℕ) → length xs ≡ n → at + n + length ys ≤ length out
-    → put (splice out at xs) (at + n) ys ≡ splice out at (xs ++ ys)
-put-next out at n xs ys long h =
-    let same : length (splice out at xs) ≡ length out = length-splice out at xs (omega arith) in
-    put-room (splice out at xs) (at + n) ys (omega arith)
-    ∙ rw (← long) (splice-splice out at xs ys (omega arith))
 
 -- nothing spliced in
 splice-none : (out : List ℕ) (at : ℕ) → splice out at [] ≡ out
@@ -56,9 +48,9 @@ fixed-put out at size word {l} {m} {p} h el em ep =
     let first : l ≡ splice out at (0 ∷ 0 ∷ []) = el ∙ put-room out at (0 ∷ 0 ∷ []) (omega arith) in
     let second : m ≡ splice out at (0 ∷ 0 ∷ octetsOf little 2 size) =
     em ∙ ap (λ (o : List ℕ). put o (at + 2) (octetsOf little 2 size)) first
-    ∙ put-next out at 2 (0 ∷ 0 ∷ []) (octetsOf little 2 size) refl (omega arith) in
+    ∙ put-next out at 2 (0 ∷ 0 ∷ []) refl (octetsOf little 2 size) (omega arith) in
     ep ∙ ap (λ (o : List ℕ). put o (at + 4) (octetsOf little 4 word)) second
-    ∙ put-next out at 4 (0 ∷ 0 ∷ octetsOf little 2 size) (octetsOf little 4 word) (omega arith) (omega arith)
+    ∙ put-next out at 4 (0 ∷ 0 ∷ octetsOf little 2 size) (omega arith) (octetsOf little 4 word) (omega arith)
 
 -- a header is its fixed header and its fields
 header-parts : (rules : Rules) (edition word : ℕ) (values : List ℕ)
@@ -186,11 +178,11 @@ module _ (rules : Rules) (out₀ : List ℕ) (place edition word : ℕ) (values 
           let pad : padded ≡ splice out₀ (place + fixedLength) (f .done ++ gap) =
           ep
           ∙ ap₂ (λ (o : List ℕ) (k : ℕ). put o k gap) (f .holds) (sym first)
-          ∙ put-next out₀ (place + fixedLength) (length (f .done)) (f .done) gap refl (omega (arith, m .after)) in
+          ∙ put-next out₀ (place + fixedLength) (length (f .done)) (f .done) refl gap (omega (arith, m .after)) in
           let whole : filled ≡ splice out₀ (place + fixedLength) (f .done ++ gap ++ value) =
           ef
           ∙ ap₂ (λ (o : List ℕ) (k : ℕ). put o k value) pad (sym second)
-          ∙ put-next out₀ (place + fixedLength) (length (f .done ++ gap)) (f .done ++ gap) value refl (omega (arith, values-long)) in
+          ∙ put-next out₀ (place + fixedLength) (length (f .done ++ gap)) (f .done ++ gap) refl value (omega (arith, values-long)) in
           record {
             here = next .0;
             known = sym (m .known ∙ next .1 .0) ∙ f .known;
