@@ -29,6 +29,7 @@ typedef struct { uint64_t kind, number, place, count, reached; } zalghimo_survey
 typedef struct { uint64_t kind, number, place, capture, packet, length; } zalghimo_earlier;
 typedef struct { uint64_t kind, number, place; int64_t seconds; uint64_t microseconds; } zalghimo_time;
 typedef struct { uint64_t kind, number, place; int64_t field; } zalghimo_time_field;
+typedef struct { uint64_t kind, number, place; } zalghimo_done;
 typedef struct { uint64_t kind, number, place, next; } zalghimo_written;
 typedef struct {
     uint64_t kind, number, place, rf_channel;
@@ -58,6 +59,10 @@ zalghimo_earlier zalghimo_btsnoop_earlier(const uint8_t *first, size_t first_len
                                           const uint8_t *second, size_t second_length, size_t second_place);
 zalghimo_time zalghimo_btsnoop_read_time(int64_t field);
 uint32_t zalghimo_btsnoop_drops(uint32_t earlier, uint32_t later);
+/* Adds a record to a tally of six numbers: records, received, commands, octets included, lost, and the last drop
+ * number, which is taken modulo 2^32. */
+zalghimo_done zalghimo_btsnoop_tally(uint64_t tally[6], uint32_t original, uint32_t included, uint32_t flags,
+                                     uint32_t drops);
 
 /* BTSnoop, writing. */
 zalghimo_time_field zalghimo_btsnoop_write_time(int64_t seconds, uint32_t microseconds);

@@ -55,5 +55,8 @@ fn ask<'a>(op: u8, q: &[u8], first: &'a [u8], second: &'a [u8]) {
     if answers_radiotap_writing::answer(op, q, first, second) {
         return;
     }
-    answers_le::answer(op, q, first, second);
+    if answers_le::answer(op, q, first, second) {
+        return;
+    }
+    answers_tally::answer(op, q, first);
 }

@@ -17,6 +17,7 @@ ghost use Rattle.boundary_radiotap.specs.Rows.{radiotapRow, wordRow, fieldRow};
 ghost use Rattle.boundary.specs.Rows.{headerRow, fileRow, recordRow, surveyRow, earlierRow, timeRow, timeFieldRow, writtenRow};
 
 pub mod le;
+pub mod tallying;
 
 use boundary::Earlier;
 use boundary::File;

@@ -1,7 +1,7 @@
 //! Octets and numbers lent to the library, with random ones on both sides.
 
-use crate::prng::Prng;
 use crate::report::Hex;
+use random::prng::Prng;
 
 /// A lent buffer and a copy that the library does not see.
 pub struct Lent<T> {
@@ -60,7 +60,12 @@ impl Lent<u64> {
     /// Lends random numbers.
     pub fn numbers(prng: &mut Prng, count: usize) -> Self {
         let content = prng.numbers(count);
-        Lent::between(prng, &content, Prng::numbers)
+        Lent::of_numbers(prng, &content)
+    }
+
+    /// Lends these numbers.
+    pub fn of_numbers(prng: &mut Prng, content: &[u64]) -> Self {
+        Lent::between(prng, content, Prng::numbers)
     }
 
     /// All numbers that the library could have changed.

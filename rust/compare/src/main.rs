@@ -3,15 +3,14 @@
 
 mod btsnoop;
 mod c_struct;
-mod damage;
 mod le;
 mod lent;
 mod places;
-mod prng;
 mod radiotap;
 mod report;
+mod tally;
 
-use prng::Prng;
+use random::prng::Prng;
 use report::Report;
 use std::process::ExitCode;
 
@@ -26,6 +25,17 @@ pub struct Session {
     prng: Prng,
     report: Report,
 }
+
+/// Questions asked in a session.
+type Questions = fn(&mut Session);
+
+/// The ends and the round of each format and of the tally.
+const FORMATS: [(Questions, Questions); 4] = [
+    (btsnoop::ends::all, btsnoop::round),
+    (radiotap::ends::all, radiotap::round),
+    (le::ends::all, le::round),
+    (tally::ends::all, tally::round),
+];
 
 /// The numbers given as arguments, or the defaults.
 fn arguments() -> Option<(u64, u64)> {
@@ -47,17 +57,11 @@ fn main() -> ExitCode {
         prng: Prng::new(seed),
         report: Report::default(),
     };
-    btsnoop::ends::all(&mut session);
-    for _ in 0..count {
-        btsnoop::round(&mut session);
-    }
-    radiotap::ends::all(&mut session);
-    for _ in 0..count {
-        radiotap::round(&mut session);
-    }
-    le::ends::all(&mut session);
-    for _ in 0..count {
-        le::round(&mut session);
+    for (ends, round) in FORMATS {
+        ends(&mut session);
+        for _ in 0..count {
+            round(&mut session);
+        }
     }
     if session.report.finish() {
         ExitCode::SUCCESS

@@ -1,6 +1,6 @@
 //! Places in an output, of every kind.
 
-use crate::prng::Prng;
+use random::prng::Prng;
 
 /// Places and numbers near the largest and at other powers of two.
 pub const HUGE: [usize; 12] = [

@@ -37,6 +37,11 @@ pub struct Record<'a> {
 }
 
 impl Record<'_> {
+    /// The place where the record starts.
+    pub fn start(&self) -> usize {
+        self.packet_place - RECORD_HEADER
+    }
+
     /// The place behind the record.
     pub fn next(&self) -> usize {
         self.packet_place + self.packet.len()
@@ -144,9 +149,9 @@ pub fn read_record(input: &[u8], place: usize) -> Result<Option<Record<'_>>, Ref
 }
 
 /// The records from a place on, up to the end or the first refusal.
-struct Walk<'a> {
-    input: &'a [u8],
-    place: usize,
+pub(crate) struct Walk<'a> {
+    pub(crate) input: &'a [u8],
+    pub(crate) place: usize,
 }
 
 impl<'a> Iterator for Walk<'a> {

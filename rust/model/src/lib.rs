@@ -2,8 +2,10 @@
 
 pub mod btsnoop;
 pub mod le;
+pub mod listing;
 pub mod output;
 pub mod radiotap;
 pub mod refusal;
 pub mod rows;
+pub mod tally;
 pub mod time;

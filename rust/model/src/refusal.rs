@@ -18,9 +18,11 @@ pub enum Reason {
     NoRoom = 13,
     Time = 14,
     Edition = 15,
+    TallySum = 16,
     RecordPlace = 17,
     UnknownBit = 18,
     ValuesLength = 19,
+    ListingInput = 20,
 }
 
 /// A refusal as it is handed out.

@@ -37,3 +37,11 @@ pub fn written(answer: Result<usize, Refusal>) -> [u64; 4] {
         Err(refusal) => refused(refusal, &[]),
     }
 }
+
+/// The row of an answer that has no values.
+pub fn done(answer: Result<(), Refusal>) -> [u64; 3] {
+    match answer {
+        Ok(()) => row(VALUES, &[]),
+        Err(refusal) => refused(refusal, &[]),
+    }
+}

@@ -5,17 +5,23 @@ mod btsnoop;
 mod le;
 mod question;
 mod radiotap;
+mod tally;
 
 use question::Question;
 use std::process::ExitCode;
 use std::{env, fs, io};
 
 /// The most octets that the questions may take: the proved program reads no more than 65,536.
-const LIMIT: usize = 60_000;
+const LIMIT: usize = 65_000;
 
-/// The questions of all formats.
+/// The questions of all formats and of the tally.
 fn questions() -> Vec<Question> {
-    let formats = [btsnoop::questions(), radiotap::questions(), le::questions()];
+    let formats = [
+        btsnoop::questions(),
+        radiotap::questions(),
+        le::questions(),
+        tally::questions(),
+    ];
     formats.into_iter().flatten().collect()
 }
 
@@ -25,6 +31,7 @@ fn answer(question: &Question) -> String {
         1..=10 => btsnoop::answer(question),
         11..=15 => radiotap::answer(question),
         16..=17 => le::answer(question),
+        18 => tally::answer(question),
         op => panic!("no such op: {op}"),
     };
     format!("{} {line}\n", question.op)

@@ -42,6 +42,11 @@ fn read_all(input: &[u8]) -> Whole {
     }
 }
 
+/// The records of a file as the library reads them.
+pub fn read_entries(input: &[u8]) -> Vec<Entry> {
+    read_all(input).entries
+}
+
 /// The record that a row of the library tells of.
 fn read_entry(input: &[u8], row: &[u64; 10]) -> Option<Entry> {
     let [VALUES, _, _, original, included, flags, drops, time, packet, _] = *row else {

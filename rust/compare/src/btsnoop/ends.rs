@@ -2,11 +2,11 @@
 
 use super::ask;
 use super::made::{self, Entry, DATALINKS, TIMES, WORDS};
-use crate::damage::put;
 use crate::places::HUGE;
 use crate::Session;
 use model::btsnoop::Fields;
 use model::time::{UNIX_EPOCH, YEAR_2000};
+use random::damage::put;
 
 /// The file of one HCI reset command, as in P3.
 fn one_record() -> Vec<u8> {

@@ -1,10 +1,10 @@
 //! Inputs: valid files, damaged ones, noise, and places in them.
 
-use crate::damage::{add_octets, change_octet, cut, put};
 use crate::places::HUGE;
-use crate::prng::Prng;
 use model::btsnoop::Fields;
 use model::time::{UNIX_EPOCH, YEAR_2000};
+use random::damage::{add_octets, change_octet, cut, put};
+use random::prng::Prng;
 
 /// Times at the ends that the rules speak of.
 pub const TIMES: [i64; 16] = [

@@ -1,17 +1,17 @@
 //! BTSnoop and time: the questions of one round.
 
 mod ask;
-mod chains;
+pub mod chains;
 pub mod ends;
 mod ffi;
-mod made;
+pub mod made;
 
-use crate::damage::put;
 use crate::places::room;
-use crate::prng::Prng;
 use crate::Session;
 use made::Made;
 use model::time::UNIX_EPOCH;
+use random::damage::put;
+use random::prng::Prng;
 
 /// One round over one input.
 pub fn round(session: &mut Session) {

@@ -1,8 +1,8 @@
 //! Inputs: valid pseudo-headers, damaged ones and noise; and what a writer is given.
 
-use crate::damage::{add_octets, change_octet, cut};
-use crate::prng::Prng;
 use model::le::Values;
+use random::damage::{add_octets, change_octet, cut};
+use random::prng::Prng;
 
 /// Octets of the pseudo-header.
 pub const HEADER: usize = 10;

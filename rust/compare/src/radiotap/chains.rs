@@ -2,11 +2,11 @@
 
 use super::ffi;
 use super::made::{self, Values};
-use crate::damage::put;
 use crate::lent::Lent;
 use crate::report::Hex;
 use crate::Session;
 use model::rows::VALUES;
+use random::damage::put;
 
 /// The editions served.
 const SERVED: [u32; 4] = [0, 1, 2, 3];

@@ -3,10 +3,10 @@
 use super::ask;
 use super::editions;
 use super::made::{self, Values, EDITIONS, KNOWN};
-use crate::damage::put;
 use crate::places::HUGE;
 use crate::Session;
 use model::radiotap::row;
+use random::damage::put;
 
 /// All the ends.
 pub fn all(session: &mut Session) {

@@ -1,9 +1,9 @@
 //! Inputs: headers as an edition lays them out, damaged ones and noise; what a writer is given.
 
-use crate::damage::{add_octets, change_octet, cut, put};
 use crate::places::HUGE;
-use crate::prng::Prng;
 use model::radiotap::row;
+use random::damage::{add_octets, change_octet, cut, put};
+use random::prng::Prng;
 use std::ops::Range;
 
 /// The bits that editions 1, 2 and 3 know.
