@@ -1,0 +1,3 @@
+pub mod Readers
+pub mod PlaceLaws
+pub mod Held
