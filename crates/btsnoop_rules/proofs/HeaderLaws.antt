@@ -8,6 +8,8 @@ use lib.ListN.{length, getD}
 use lib.Dec.{eqb, lit<}
 use borrow.Author.Tests.{le-leb, lt-leb, eq-eqb, ne-eqb, eqb-true}
 use native.Mathlib.Omega.{arith}
+use native.Mathlib.Nat.{lt-of-not-le}
+use native.Mathlib.Decide.{decLe}
 use Rattle.refusals.specs.Refusals.{Answer, refused, given, shortHeader, identification, version, datalink}
 use Rattle.octets.specs.Numbers.{Order, big, number, octetsOf, octetsAfter, octetsAt, numberAt, Octets}
 use Rattle.octets.proofs.Laws.{write-after-read}
@@ -74,6 +76,14 @@ module _ (s : List ℕ) where
   pub header-judged : headerLength ≤ length s → headerAt s ≡ headerJudged s
   unfolding headerAt
   header-judged h = rw (le-leb headerLength (length s) h)
+
+  -- an accepted header is there whole
+  pub header-long : (code : ℕ) → headerAt s ≡ given code → headerLength ≤ length s
+  header-long code e = go (decLe headerLength (length s))
+    where
+      go : Dec (headerLength ≤ length s) → headerLength ≤ length s
+      go (yes h) = h
+      go (no h) = let z : _≡_ {A = ℕ} 0 1 = cc (header-short (lt-of-not-le h)) in absurd (omega arith)
 
   -- the judgement's cases, from the test of the identification octets on
   pub judged-other : sameOctets (octetsAt s 0 8) identificationOctets ≡ false → headerJudged s ≡ refused identification 0

@@ -4,8 +4,7 @@ use Prim.Native.Nat.{ℕ, zero, suc, _+_, _-_, _≤_, _<_}
 use mathlib.Core.Path.{_≡_, refl, sym, ap, _∙_}
 use mathlib.Core.List.{List}
 use native.Mathlib.Omega.{arith}
-use native.Mathlib.Nat.{add-zero, zero-add, add-suc, lt-of-not-le}
-use native.Mathlib.Decide.{decLe}
+use native.Mathlib.Nat.{add-zero, zero-add, add-suc}
 use lib.ListN.{length}
 use Rattle.refusals.specs.Refusals.{Answer, refused, given, recordPlace}
 use Rattle.tiling.specs.Tiling.{Next, Walk, stop, Ending, ended, more, broken, items, ending, used, onward, walk, Survey, surveyOf}
@@ -14,7 +13,7 @@ use Rattle.btsnoop_rules.specs.declared.Numbers.{Numbers}
 use Rattle.btsnoop_rules.specs.Header.{headerLength, headerAt}
 use Rattle.btsnoop_rules.specs.Record.{Found, end, whole, Record, recordAt, stepOn, recordStep}
 use Rattle.btsnoop_rules.specs.File.{surveyAt, fileWalk, fileOf, behind, fileAt}
-use Rattle.btsnoop_rules.proofs.HeaderLaws.{header-short}
+use Rattle.btsnoop_rules.proofs.HeaderLaws.{header-long}
 use Rattle.btsnoop_rules.proofs.Files.{forward}
 
 -- a survey with so many records counted before it
@@ -117,13 +116,6 @@ module _ (s : List ℕ) (place number : ℕ) where
         go (given (Next.whole a q)) e = refl
 
 -- behind an accepted header the file is what the survey of all its records says
-header-long : (s : List ℕ) (code : ℕ) → headerAt s ≡ given code → headerLength ≤ length s
-header-long s code e = go (decLe headerLength (length s))
-  where
-    go : Dec (headerLength ≤ length s) → headerLength ≤ length s
-    go (yes h) = h
-    go (no h) = let z : _≡_ {A = ℕ} 0 1 = cc (header-short s (lt-of-not-le h)) in absurd (omega arith)
-
 pub surveyed : (s : List ℕ) (code : ℕ) → headerAt s ≡ given code
     → fileAt s ≡ fileOf code (surveyAt s headerLength (length s) .count) (surveyAt s headerLength (length s) .ending)
 unfolding fileAt fileWalk surveyAt

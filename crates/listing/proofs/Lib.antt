@@ -1,0 +1,4 @@
+pub mod WroteLaws
+pub mod RecordLaws
+pub mod ListingLaws
+pub mod Shown

@@ -1,0 +1,58 @@
+-- Laws of octets written into an output: one write, and a write behind another.
+-- Assumes nothing.
+use Prim.Native.Nat.{ℕ, _+_, _≤_}
+use native.Mathlib.Omega.{arith}
+use native.Mathlib.Nat.{lt-of-not-le}
+use native.Mathlib.Decide.{decLe}
+use mathlib.Core.Path.{_≡_, refl, sym, ap, subst, subst₂, _∙_}
+use mathlib.Core.List.{List, _∷_, _++_, append-assoc}
+use lib.ListN.{length, length-append}
+use Rattle.octets.specs.Parts.{put, splice}
+use Rattle.octets.proofs.PartLaws.{put-room, put-none, length-splice, splice-splice}
+use Rattle.listing.specs.Lines.{tab}
+use Rattle.listing.specs.Wrote.{Wrote}
+
+-- an output keeps its length
+length-put : (out : List ℕ) (at : ℕ) (xs : List ℕ) → length (put out at xs) ≡ length out
+length-put out at xs = go (decLe (at + length xs) (length out))
+  where
+    go : Dec (at + length xs ≤ length out) → length (put out at xs) ≡ length out
+    go (yes h) = ap length (put-room out at xs h) ∙ length-splice out at xs h
+    go (no h) = ap length (put-none out at xs (lt-of-not-le h))
+
+-- octets that were put are written
+pub wrote-put : (out : List ℕ) (at : ℕ) (xs : List ℕ) → Wrote out at xs (put out at xs) (at + length xs)
+wrote-put out at xs = record { behind = refl; long = length-put out at xs; holds = put-room out at xs }
+
+-- what is written behind other octets
+pub wrote-then : {before between after : List ℕ} {at middle next : ℕ} {xs ys : List ℕ}
+    → Wrote before at xs between middle → Wrote between middle ys after next → Wrote before at (xs ++ ys) after next
+wrote-then {before} {between} {after} {at} {middle} {next} {xs} {ys} first second =
+    let sum : length (xs ++ ys) ≡ length xs + length ys = length-append xs ys in
+    let one : middle ≡ at + length xs = first .behind in
+    let two : next ≡ middle + length ys = second .behind in
+    let long : length between ≡ length before = first .long in
+    record {
+      behind = omega arith;
+      long = second .long ∙ first .long;
+      holds = λ room.
+          second .holds (omega arith)
+          ∙ ap (λ (out : List ℕ). splice out middle ys) (first .holds (omega arith))
+          ∙ ap (λ (k : ℕ). splice (splice before at xs) k ys) one
+          ∙ splice-splice before at xs ys (omega arith);
+    }
+
+-- an output that is what a put leaves, and the place behind it
+pub wrote-is : {before after : List ℕ} {at next : ℕ} {xs : List ℕ}
+    → after ≡ put before at xs → next ≡ at + length xs → Wrote before at xs after next
+wrote-is {before} {after} {at} {next} {xs} e n =
+    subst₂ (Wrote before at xs) (sym e) (sym n) (wrote-put before at xs)
+
+-- what is written behind two fields
+pub wrote-two : {before between after : List ℕ} {at middle next : ℕ} (xs ys zs : List ℕ)
+    → Wrote before at (tab ∷ (xs ++ (tab ∷ ys))) between middle → Wrote between middle zs after next
+    → Wrote before at (tab ∷ (xs ++ (tab ∷ (ys ++ zs)))) after next
+wrote-two {before} {between} {after} {at} {middle} {next} xs ys zs first second =
+    subst (λ (all : List ℕ). Wrote before at (tab ∷ all) after next)
+    (append-assoc xs (tab ∷ ys) zs)
+    (wrote-then first second)

@@ -1,0 +1,47 @@
+-- `listing::file_line` meets its contract: the word with the version, the code and the newline are written one behind the other.
+-- Assumes nothing.
+use native.Mathlib.Omega.{arith}
+use borrow.Author.Needs.{needs}
+use Rattle.text.specs.Decimal.{decimal}
+use Rattle.listing.specs.Lines.{fileLine}
+use Rattle.listing.proofs.WroteLaws.{wrote-then}
+use Rattle.listing.proofs.file_line.Statement.{statement}
+use Rattle.listing.proofs.file_line.Tie as tie
+
+slice-aggregate-word : tie.Need-slice-aggregate-word
+slice-aggregate-word c = search needs
+
+word-requires : tie.Need-word-requires
+word-requires c κs = search needs
+
+field-requires : tie.Need-field-requires
+field-requires c κs = search needs
+
+slice-aggregate-word-2 : tie.Need-slice-aggregate-word-2
+slice-aggregate-word-2 c = search needs
+
+word-requires-2 : tie.Need-word-requires-2
+word-requires-2 c κs = search needs
+
+same-length : tie.Need-same-length
+same-length c = search needs
+
+returns : tie.Need-returns
+unfolding fileLine decimal
+returns c =
+    let version = c .before .before .before .before .before .before .before .before .before .before .before .word .ensures in
+    let code = c .before .before .before .before .before .before .before .field .ensures in
+    let newline = c .before .before .word2 .ensures in
+    (wrote-then version (wrote-then (code .0) newline), omega (arith, code .1))
+
+pub file-line-spec : {M : Type 1} → statement M
+file-line-spec =
+    tie.close
+    (tie.spec
+    slice-aggregate-word
+    word-requires
+    field-requires
+    slice-aggregate-word-2
+    word-requires-2
+    same-length
+    returns)

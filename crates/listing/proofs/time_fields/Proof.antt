@@ -1,0 +1,98 @@
+-- `listing::time_fields` meets its contract: in each arm the fields are those of the time given.
+-- Assumes nothing.
+use native.Mathlib.Omega.{arith}
+use mathlib.Core.Path.{sym, subst}
+use mathlib.Core.List.{_∷_}
+use lib.IntN.{ℤ}
+use mir.Syntax.{w64}
+use mir.Facts.{toZ-ofZ}
+use denote.Ref.{now}
+use borrow.Author.Needs.{needs}
+use Rattle.capture_time.specs.declared.TimeAnswer.{TimeAnswer}
+use Rattle.capture_time.specs.Answers.{timeSays}
+use Rattle.text.specs.Decimal.{signedDecimal}
+use Rattle.listing.specs.Lines.{tab, fieldsOf, timeFields}
+use Rattle.listing.specs.Wrote.{Wrote}
+use Rattle.listing.proofs.WroteLaws.{wrote-then}
+use Rattle.listing.proofs.time_fields.Statement.{statement}
+use Rattle.listing.proofs.time_fields.Tie as tie
+
+enum-told : tie.Need-enum-told
+enum-told c = search needs
+
+slice-aggregate-word : tie.Need-slice-aggregate-word
+slice-aggregate-word c = search needs
+
+word-requires : tie.Need-word-requires
+word-requires c κs = search needs
+
+enum-known-time : tie.Need-enum-known-time
+enum-known-time c = search needs
+
+signed-field-requires : tie.Need-signed-field-requires
+signed-field-requires c κs = search needs
+
+cast-field : tie.Need-cast-field
+cast-field c = search needs
+
+field-requires : tie.Need-field-requires
+field-requires c κs = search needs
+
+slice-aggregate-word-2 : tie.Need-slice-aggregate-word-2
+slice-aggregate-word-2 c = search needs
+
+word-requires-2 : tie.Need-word-requires-2
+word-requires-2 c κs =
+    let microseconds = c .before .before .before .before .field .ensures in
+    let seconds = c .before .before .before .before .before .before .before .before .signed-field .ensures in
+    (omega (arith, microseconds .1, seconds .1), omega arith)
+
+same-length : tie.Need-same-length
+same-length c = search needs
+
+returns : tie.Need-returns
+returns c =
+    let a = c .before .before .before .before .before .before .before .before .args in
+    let w = c .before .before .word in (
+      subst (λ (t : TimeAnswer). Wrote (now (a .output)) (a .at) (fieldsOf (timeFields (timeSays t))) (w .last .0) (w .result))
+          (sym (c .before .before .before .before .before .enum-told .given .1))
+          (w .ensures),
+      omega (arith, w .ensures .behind),
+    )
+
+same-length-2 : tie.Need-same-length-2
+same-length-2 c = search needs
+
+returns-2 : tie.Need-returns-2
+returns-2 c =
+    let arm = c .before .before .before .before .before .before .before .before .before .before .before .before .before in
+    let a = arm .before .before .before .before .args in
+    let w = c .before .before .word2 in
+    let f = c .before .before .before .before .before .before .before .field .ensures in
+    let s = c .before .before .before .before .before .before .before .before .before .before .before .signed-field in
+    let v = arm .before .time .given in
+    let same = toZ-ofZ {w = w64} {z = v .0 .0} (record { sfits = arm .known-told .given .0 .1 }) in
+    let seconds = subst (λ (z : ℤ). Wrote (now (a .output)) (a .at) (tab ∷ signedDecimal z) (s .last .0) (s .result)) same (s .ensures .0) in (
+      subst (λ (t : TimeAnswer). Wrote (now (a .output)) (a .at) (fieldsOf (timeFields (timeSays t))) (w .last .0) (w .result))
+          (sym (v .1))
+          (wrote-then seconds (wrote-then (f .0) (w .ensures))),
+      omega (arith, w .ensures .behind, f .1, s .ensures .1),
+    )
+
+pub time-fields-spec : {M : Type 1} → statement M
+time-fields-spec =
+    tie.close
+    (tie.spec
+    enum-told
+    slice-aggregate-word
+    word-requires
+    enum-known-time
+    signed-field-requires
+    cast-field
+    field-requires
+    slice-aggregate-word-2
+    word-requires-2
+    same-length
+    returns
+    same-length-2
+    returns-2)
