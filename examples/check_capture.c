@@ -1,30 +1,9 @@
 /* Asks the library about a BTSnoop file: whether it is accepted, and where not, why and at which place. */
 #include <inttypes.h>
 #include <stdio.h>
-#include <stdlib.h>
 
+#include "whole_file.h"
 #include "zalghimo.h"
-
-/* The whole of a file, in memory that is never given back; NULL where it cannot be read. */
-static uint8_t *whole_file(const char *path, size_t *length)
-{
-    FILE *file = fopen(path, "rb");
-    size_t room = 1 << 16;
-    uint8_t *octets = malloc(room);
-    *length = 0;
-    while (file && octets) {
-        size_t got = fread(octets + *length, 1, room - *length, file);
-        *length += got;
-        if (got == 0)
-            break;
-        if (*length == room)
-            octets = realloc(octets, room *= 2);
-    }
-    if (!file || !octets || ferror(file))
-        return NULL;
-    fclose(file);
-    return octets;
-}
 
 int main(int count, char **words)
 {

@@ -1,23 +1,61 @@
-/* The C boundary of the capture reader: libzalghimo.a, made by `rt staticlib zalghimo`.
+/* The C boundary of the capture reader: libzalghimo.a, made by `rt staticlib zalghimo`, for x86-64.
  *
- * Each function answers for every input and asks nothing of its caller beyond valid pointers and lengths. The answer is
- * returned by value; a refusal changes nothing that was lent. */
+ * Each function answers for every input and asks nothing of its caller beyond this: a pointer and its length are those
+ * of a live buffer, the pointer is not NULL even where the length is 0, and a buffer that is written shares nothing
+ * with another that is lent to the same call. The library allocates nothing, keeps no pointer and has no state.
+ *
+ * The answer is a struct returned by value. Look at its `kind` first. Fields that a kind has no value for are 0.
+ * A place is an offset in octets from the start of the buffer lent. An input is only read. A refusal changes nothing
+ * that was lent, an accepted write only the octets written. */
 #ifndef ZALGHIMO_H
 #define ZALGHIMO_H
 
 #include <stddef.h>
 #include <stdint.h>
 
-/* What every answer's kind says. */
+#ifdef __cplusplus
+extern "C" {
+#endif
+
+/* What every answer's kind says. A function's comment names the kinds that it gives: VALUES where it names none, and
+ * REFUSED where it names refusals. */
 enum {
-    ZALGHIMO_REFUSED = 0, /* number and place are the refusal's */
+    ZALGHIMO_REFUSED = 0, /* number and place are the refusal's, and 0 for every other kind */
     ZALGHIMO_VALUES = 1,
     ZALGHIMO_END = 2,
     ZALGHIMO_MORE = 3,
-    ZALGHIMO_STOPPED = 4, /* a radiotap header read up to a bit that the edition does not know, named by word and bit */
+    ZALGHIMO_STOPPED = 4  /* a radiotap header read up to a bit that the edition does not know, named by word and bit */
 };
 
-/* Fields that a kind has no value for are 0. */
+/* The refusals: condition; place. A writer's refusal has place 0, whatever stands here.
+ * Each function names its refusals in the order in which they are judged. */
+enum {
+    ZALGHIMO_SHORT_HEADER = 1,            /* input shorter than the fixed header (BTSnoop 16, LE 10, radiotap 8);
+                                           * the input's length */
+    ZALGHIMO_IDENTIFICATION = 2,          /* the identification octets differ; 0 */
+    ZALGHIMO_VERSION = 3,                 /* BTSnoop version not 1, or radiotap version not 0; 8, or 0 */
+    ZALGHIMO_DATALINK = 4,                /* datalink code not 1001 to 1004; 12 */
+    ZALGHIMO_SHORT_RECORD = 5,            /* 1 to 23 octets remain where a record starts; the record's start */
+    ZALGHIMO_INCLUDED_ABOVE_ORIGINAL = 6, /* included length above original length; the record's start + 4 */
+    ZALGHIMO_SHORT_PACKET = 7,            /* packet octets run past the input, or LE packet under 4 octets (5 for the
+                                           * coded PHY); the record's start, or 10 */
+    ZALGHIMO_LE_VALUE = 8,                /* RF channel above 39, PDU type 7 or PHY 3; 0 for the channel, otherwise 8 */
+    ZALGHIMO_RADIOTAP_LENGTH = 9,         /* radiotap length below 8 or above the input; 2 */
+    ZALGHIMO_WORD_PAST_LENGTH = 10,       /* a presence word runs past the radiotap length; 4 */
+    ZALGHIMO_NINTH_WORD = 11,             /* a ninth presence word is called for; 4 */
+    ZALGHIMO_FIELD_PAST_LENGTH = 12,      /* a known field runs past the radiotap length; its start, after alignment */
+    ZALGHIMO_NO_ROOM = 13,                /* the output has no room from the given place; 0 */
+    ZALGHIMO_TIME = 14,                   /* a time cannot be expressed; 0 */
+    ZALGHIMO_EDITION = 15,                /* edition above 3; 0 */
+    ZALGHIMO_TALLY_SUM = 16,              /* a tally sum would pass 2^64 - 1; 0 */
+    ZALGHIMO_RECORD_PLACE = 17,           /* a record place below 16 or above the input's length; the place given */
+    ZALGHIMO_UNKNOWN_BIT = 18,            /* writer: a presence bit unknown to the edition, 29 to 31 included; 0 */
+    ZALGHIMO_VALUES_LENGTH = 19,          /* writer: packed values not of the summed length; 0 */
+    ZALGHIMO_LISTING_INPUT = 20           /* listing program only: input above 65,536 octets; 65536 */
+};
+
+/* ---- The answers ---- */
+
 typedef struct { uint64_t kind, number, place, datalink; } zalghimo_header;
 typedef struct { uint64_t kind, number, place, datalink, records; } zalghimo_file;
 typedef struct {
@@ -50,43 +88,118 @@ typedef struct {
 typedef struct { uint64_t kind, number, place, value; } zalghimo_word;
 typedef struct { uint64_t kind, number, place, word, bit, start, size; } zalghimo_field;
 
-/* BTSnoop, reading. */
+/* ---- BTSnoop, reading ----
+ * A file is a header of 16 octets, then records end to end: 24 octets, then the packet. */
+
+/* Reads the file header: its datalink code. The records are not looked at.
+ * Refusals: SHORT_HEADER, IDENTIFICATION, VERSION, DATALINK. */
 zalghimo_header zalghimo_btsnoop_header(const uint8_t *input, size_t length);
+
+/* Checks a whole file: its datalink code and how many records it has; a header alone has 0.
+ * Refusals: those of the header, then of the first record refused: SHORT_RECORD, INCLUDED_ABOVE_ORIGINAL,
+ * SHORT_PACKET. */
 zalghimo_file zalghimo_btsnoop_check(const uint8_t *input, size_t length);
+
+/* Reads the record at a place; the first is at 16. The file header is not judged.
+ * VALUES: original and included length, all 32 flag bits (bit 0 received, bit 1 command or event), cumulative drops,
+ * the time field, the place of the packet, whose length is `included`, and the place of the next record.
+ * END: the place is the input's length.
+ * Refusals: RECORD_PLACE, SHORT_RECORD, INCLUDED_ABOVE_ORIGINAL, SHORT_PACKET. */
 zalghimo_record zalghimo_btsnoop_record(const uint8_t *input, size_t length, size_t place);
+
+/* Passes the records from a place on, at most a number of them. The file header is not judged.
+ * END: the input's end is reached, also for a number of 0. MORE: the number is used up; go on from `reached`.
+ * Both say how many records were passed and the place reached.
+ * Refusals: RECORD_PLACE, SHORT_RECORD, INCLUDED_ABOVE_ORIGINAL, SHORT_PACKET; `count` is then that of the whole
+ * records before the one refused, and `reached` is 0. */
 zalghimo_survey zalghimo_btsnoop_survey(const uint8_t *input, size_t length, size_t place, size_t number);
+
+/* Finds which of two captures has the earlier record, each at its place; on equal times the first. A capture at its end
+ * leaves the other's. The file headers are not judged.
+ * VALUES: the capture (1 or 2), and the place in it and the length of that record's packet. END: both are at their end.
+ * Refusals: as for a record, the first capture's before the second's; `capture` says which. */
 zalghimo_earlier zalghimo_btsnoop_earlier(const uint8_t *first, size_t first_length, size_t first_place,
                                           const uint8_t *second, size_t second_length, size_t second_place);
+
+/* Converts a record's time field to Unix time: seconds, rounded down, and microseconds in 0 to 999,999.
+ * Refusals: TIME, for a field below -2^63 + 0x00DCDDB30F2F8000. */
 zalghimo_time zalghimo_btsnoop_read_time(int64_t field);
+
+/* The drops between two records: later less earlier, modulo 2^32. */
 uint32_t zalghimo_btsnoop_drops(uint32_t earlier, uint32_t later);
+
 /* Adds a record to a tally of six numbers: records, received, commands, octets included, lost, and the last drop
- * number, which is taken modulo 2^32. */
+ * number, which is taken modulo 2^32 and is of no account while records is 0. Start from six zeros.
+ * Refusals: TALLY_SUM; the tally stays as it was. */
 zalghimo_done zalghimo_btsnoop_tally(uint64_t tally[6], uint32_t original, uint32_t included, uint32_t flags,
                                      uint32_t drops);
 
-/* BTSnoop, writing. */
+/* ---- BTSnoop, writing ----
+ * A writer writes into the output at a place and answers the place after what it wrote, `next`. */
+
+/* Converts Unix time to a record's time field.
+ * Refusals: TIME, for microseconds above 999,999 or a field outside the signed 64-bit range. */
 zalghimo_time_field zalghimo_btsnoop_write_time(int64_t seconds, uint32_t microseconds);
+
+/* Writes a file header, 16 octets. Refusals: DATALINK, NO_ROOM. */
 zalghimo_written zalghimo_btsnoop_write_header(uint8_t *output, size_t length, size_t place, uint32_t datalink);
+
+/* Writes a record, 24 octets and the packet, whose length is the included length.
+ * Refusals: INCLUDED_ABOVE_ORIGINAL, NO_ROOM. */
 zalghimo_written zalghimo_btsnoop_write_record(uint8_t *output, size_t length, size_t place, uint32_t original,
                                                uint32_t flags, uint32_t drops, int64_t time,
                                                const uint8_t *packet, size_t packet_length);
 
-/* The LE pseudo-header. The flags alone say the PDU type, the PHY and what is known. */
+/* ---- The LE pseudo-header ----
+ * Ten octets, then the packet. The flags alone say the PDU type, the PHY and what is known. */
+
+/* Reads an LE pseudo-header: its values as they stand, which of them are known, PDU type (0 to 6), PHY (0 is 1M, 1 is
+ * 2M, 2 is coded), and the place of the packet, which is the rest of the input.
+ * Refusals: SHORT_HEADER, LE_VALUE (channel, PDU type, PHY), SHORT_PACKET. */
 zalghimo_le zalghimo_le_read(const uint8_t *input, size_t length);
+
+/* Writes an LE pseudo-header and its packet. Refusals: LE_VALUE (channel, PDU type, PHY), SHORT_PACKET, NO_ROOM. */
 zalghimo_written zalghimo_le_write(uint8_t *output, size_t length, size_t place, uint8_t rf_channel, int8_t signal,
                                    int8_t noise, uint8_t offences, uint32_t reference, uint16_t flags,
                                    const uint8_t *packet, size_t packet_length);
 
-/* Radiotap, in editions 1 to 3; edition 0 asks for the default. A header is judged whole first: one refused at a field
- * shows none. A field or word at or past the last is the end, or the stop that the reading came to. */
+/* ---- Radiotap ----
+ * An edition says which bits of a presence word have a known field: edition 1 knows bits 0 to 13, edition 2 also 14 to
+ * 17, edition 3 also 19 to 21; edition 0 asks for the default, 1. Words and fields are numbered from 0, and every word
+ * numbers its bits from 0 again. Bits 29 and 31 carry no field; another bit that the edition does not know stops the
+ * reading. Bits 5, 6 and 10 are signed dBm. zalghimo_words.h has the published name of each bit.
+ * A header is judged whole first: one refused at a field shows none. Octets left before its length are allowed. */
+
+/* The most fields that a header can have: 29 bits in each of 8 words. */
+enum { ZALGHIMO_RADIOTAP_MOST_FIELDS = 232 };
+
+/* Reads a header: how many fields are shown, the place of the frame, which is the rest of the input, the pad octet and
+ * how many presence words there are. VALUES: read to the end. STOPPED: read up to the bit named by word and bit.
+ * Refusals: EDITION, SHORT_HEADER, VERSION, RADIOTAP_LENGTH, for each word NINTH_WORD and WORD_PAST_LENGTH, then for
+ * the fields in their order FIELD_PAST_LENGTH. */
 zalghimo_radiotap zalghimo_radiotap_read(const uint8_t *input, size_t length, uint32_t edition);
+
+/* Reads a presence word by its number. END: there are no more.
+ * Refusals: SHORT_HEADER, VERSION, RADIOTAP_LENGTH, for each word NINTH_WORD and WORD_PAST_LENGTH. */
 zalghimo_word zalghimo_radiotap_word(const uint8_t *input, size_t length, size_t number);
+
+/* Reads a field by its number: word, bit, the place where it starts, and its size.
+ * END: there are no more. STOPPED: none is shown from there on; word and bit name the stop.
+ * Refusals: as zalghimo_radiotap_read. */
 zalghimo_field zalghimo_radiotap_field(const uint8_t *input, size_t length, uint32_t edition, size_t number);
-/* Puts word, bit, start and size of each field into `fields`, as many whole fields as fit; the rest stays as it was. */
+
+/* As zalghimo_radiotap_read, and puts word, bit, start and size of each field into `fields`: four numbers a field, as
+ * many whole fields as fit into its `fields_length` numbers. The rest of `fields` stays as it was, on a refusal all. */
 zalghimo_radiotap zalghimo_radiotap_fields(const uint8_t *input, size_t length, uint32_t edition, uint64_t *fields,
                                            size_t fields_length);
-/* Writes a header with one presence word; the values are packed without gaps in bit order. */
+
+/* Writes a header with one presence word; the values are packed without gaps in bit order. Pad octets are 0.
+ * Refusals: EDITION, UNKNOWN_BIT, VALUES_LENGTH, NO_ROOM. */
 zalghimo_written zalghimo_radiotap_write(uint8_t *output, size_t length, size_t place, uint32_t edition,
                                          uint32_t presence, const uint8_t *values, size_t values_length);
+
+#ifdef __cplusplus
+}
+#endif
 
 #endif

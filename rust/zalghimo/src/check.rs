@@ -1,0 +1,157 @@
+//! Whole captures: the check of a file, the survey by instalments, the earlier of two.
+
+use crate::{ffi, Refusal};
+use std::error::Error;
+use std::fmt;
+
+/// What an accepted file has.
+#[derive(Clone, Copy, Debug, PartialEq, Eq, Hash)]
+pub struct Checked {
+    /// The datalink code, 1001 to 1004.
+    pub datalink: u32,
+    /// How many records.
+    pub records: usize,
+}
+
+/// Checks a whole file: header and every record. Refusals: 1, 2, 3, 4, then those of the first record refused.
+///
+/// ```
+/// let file = b"btsnoop\0\x00\x00\x00\x01\x00\x00\x03\xEA";
+/// assert_eq!(zalghimo::check(file)?.records, 0);
+/// # Ok::<(), zalghimo::Refusal>(())
+/// ```
+pub fn check(octets: &[u8]) -> Result<Checked, Refusal> {
+    let answer = ffi::btsnoop::check(octets);
+    answer.head.accepted()?;
+    Ok(Checked {
+        datalink: answer.datalink as u32,
+        records: answer.records as usize,
+    })
+}
+
+/// How far a survey came.
+#[derive(Clone, Copy, Debug, PartialEq, Eq, Hash)]
+pub struct Survey {
+    /// How many records were passed.
+    pub count: usize,
+    /// The place reached, from which the next survey goes on.
+    pub reached: usize,
+    /// Whether that is the input's end; otherwise the number of records was used up.
+    pub at_end: bool,
+}
+
+/// The refusal of the record that a survey met.
+#[derive(Clone, Copy, Debug, PartialEq, Eq, Hash)]
+pub struct SurveyRefusal {
+    /// Why, and at which place.
+    pub refusal: Refusal,
+    /// How many whole records were passed before.
+    pub count: usize,
+}
+
+/// Passes the records from a place on, at most a number of them. The file header is not judged.
+///
+/// Refusals: 17, 5, 6, 7.
+///
+/// ```
+/// let file = b"btsnoop\0\x00\x00\x00\x01\x00\x00\x03\xEA";
+/// let survey = zalghimo::survey(file, zalghimo::FIRST_RECORD, 1000)?;
+/// assert!(survey.at_end && survey.count == 0);
+/// # Ok::<(), zalghimo::SurveyRefusal>(())
+/// ```
+pub fn survey(octets: &[u8], place: usize, number: usize) -> Result<Survey, SurveyRefusal> {
+    let answer = ffi::btsnoop::survey(octets, place, number);
+    let count = answer.count as usize;
+    match answer.head.refusal() {
+        Some(refusal) => Err(SurveyRefusal { refusal, count }),
+        None => Ok(Survey {
+            count,
+            reached: answer.reached as usize,
+            at_end: answer.head.kind == ffi::END,
+        }),
+    }
+}
+
+/// One of two captures.
+#[derive(Clone, Copy, Debug, PartialEq, Eq, Hash)]
+pub enum Which {
+    /// The first one given.
+    First,
+    /// The second one given.
+    Second,
+}
+
+/// The earlier of two captures' records.
+#[derive(Clone, Copy, Debug, PartialEq, Eq, Hash)]
+pub struct Earlier<'a> {
+    /// The capture whose record it is.
+    pub capture: Which,
+    /// The record's packet, a part of that capture.
+    pub packet: &'a [u8],
+}
+
+/// The refusal of one of two captures.
+#[derive(Clone, Copy, Debug, PartialEq, Eq, Hash)]
+pub struct EarlierRefusal {
+    /// Why, and at which place.
+    pub refusal: Refusal,
+    /// The capture refused.
+    pub capture: Which,
+}
+
+/// Finds the earlier of two captures' records, each at its place, or `None` where both are at their end.
+///
+/// On equal times it is the first capture's; where one is at its end, the other's. The file headers are not judged.
+/// Refusals: 17, 5, 6, 7, the first capture's before the second's.
+pub fn earlier<'a>(
+    first: &'a [u8],
+    first_place: usize,
+    second: &'a [u8],
+    second_place: usize,
+) -> Result<Option<Earlier<'a>>, EarlierRefusal> {
+    let answer = ffi::btsnoop::earlier(first, first_place, second, second_place);
+    let (capture, octets) = match answer.capture {
+        1 => (Which::First, first),
+        _ => (Which::Second, second),
+    };
+    if let Some(refusal) = answer.head.refusal() {
+        return Err(EarlierRefusal { refusal, capture });
+    }
+    if answer.head.kind == ffi::END {
+        return Ok(None);
+    }
+    let packet = &octets[answer.packet as usize..][..answer.length as usize];
+    Ok(Some(Earlier { capture, packet }))
+}
+
+impl fmt::Display for SurveyRefusal {
+    fn fmt(&self, formatter: &mut fmt::Formatter<'_>) -> fmt::Result {
+        write!(formatter, "after {} records: {}", self.count, self.refusal)
+    }
+}
+
+impl Error for SurveyRefusal {}
+
+impl From<SurveyRefusal> for Refusal {
+    fn from(survey: SurveyRefusal) -> Refusal {
+        survey.refusal
+    }
+}
+
+impl fmt::Display for EarlierRefusal {
+    fn fmt(&self, formatter: &mut fmt::Formatter<'_>) -> fmt::Result {
+        let capture = match self.capture {
+            Which::First => "first",
+            Which::Second => "second",
+        };
+        write!(formatter, "{capture} capture: {}", self.refusal)
+    }
+}
+
+impl Error for EarlierRefusal {}
+
+impl From<EarlierRefusal> for Refusal {
+    fn from(earlier: EarlierRefusal) -> Refusal {
+        earlier.refusal
+    }
+}

@@ -1,0 +1,235 @@
+//! The radiotap header, in editions 1 to 3.
+//!
+//! An edition says which fields are known; edition 0 asks for the default, 1. A bit that the edition does not know
+//! stops the reading: the fields before it are shown and [`Ending::Stop`] names it.
+//!
+//! ```
+//! use zalghimo::radiotap::{self, Ending, Header};
+//!
+//! // Flags (bit 1) and RX flags (bit 14), which edition 1 does not know; then a frame.
+//! let mut octets = Vec::new();
+//! radiotap::push(&mut octets, 2, 0x4002, &[0x10, 0x01, 0x00])?;
+//! octets.extend([0xD4, 0x00]);
+//!
+//! let header = Header::read(&octets, 2)?;
+//! let names: Vec<&str> = header.fields().map(|field| field.name()).collect();
+//! assert_eq!(names, ["Flags", "RX flags"]);
+//! assert_eq!(header.frame(), [0xD4, 0x00]);
+//!
+//! let older = Header::read(&octets, 1)?;
+//! assert_eq!(older.ending(), Ending::Stop { word: 0, bit: 14 });
+//! # Ok::<(), zalghimo::Refusal>(())
+//! ```
+
+use crate::{ffi, write, Refusal};
+
+/// The most fields of a header: 29 bits in each of 8 words.
+const MOST_FIELDS: usize = 29 * 8;
+
+/// Numbers that the library gives for a field: word, bit, start, size.
+const NUMBERS: usize = 4;
+
+/// Octets of a header without fields.
+const FIXED: usize = 8;
+
+/// The most pad octets before the fields of one word: up to 7 for each bit.
+const MOST_PAD: usize = 29 * 7;
+
+/// A radiotap header read in an edition, and the frame behind it.
+#[derive(Clone, Debug, PartialEq, Eq)]
+pub struct Header<'a> {
+    octets: &'a [u8],
+    fields: Vec<Field<'a>>,
+    ending: Ending,
+    frame: usize,
+    pad: u8,
+    words: usize,
+}
+
+/// A field that is shown.
+#[derive(Clone, Copy, Debug, PartialEq, Eq, Hash)]
+pub struct Field<'a> {
+    word: u32,
+    bit: u32,
+    start: usize,
+    octets: &'a [u8],
+}
+
+/// How a reading ends.
+#[derive(Clone, Copy, Debug, PartialEq, Eq, Hash)]
+pub enum Ending {
+    /// All fields are shown.
+    End,
+    /// The edition does not know the field of this bit, so that no more fields are shown.
+    Stop {
+        /// The presence word, from 0.
+        word: u32,
+        /// The bit in it, from 0.
+        bit: u32,
+    },
+}
+
+impl<'a> Header<'a> {
+    /// Reads a header in an edition. Refusals: 15, 1, 3, 9, 11, 10, 12; a header refused shows no field.
+    pub fn read(octets: &'a [u8], edition: u32) -> Result<Header<'a>, Refusal> {
+        let mut numbers = [0; NUMBERS * MOST_FIELDS];
+        let answer = ffi::radiotap::fields(octets, edition, &mut numbers);
+        answer.head.accepted()?;
+        let shown = numbers.chunks_exact(NUMBERS).take(answer.fields as usize);
+        Ok(Header {
+            octets,
+            fields: shown.map(|field| Field::of(octets, field)).collect(),
+            ending: match answer.head.kind {
+                ffi::STOPPED => Ending::Stop {
+                    word: answer.word as u32,
+                    bit: answer.bit as u32,
+                },
+                _ => Ending::End,
+            },
+            frame: answer.frame as usize,
+            pad: answer.pad as u8,
+            words: answer.words as usize,
+        })
+    }
+
+    /// The fields in order of word and bit.
+    pub fn fields(&self) -> impl ExactSizeIterator<Item = Field<'a>> + '_ {
+        self.fields.iter().copied()
+    }
+
+    /// Whether the fields end there or the reading stopped.
+    pub fn ending(&self) -> Ending {
+        self.ending
+    }
+
+    /// The frame: the input from the header's length on.
+    pub fn frame(&self) -> &'a [u8] {
+        &self.octets[self.frame..]
+    }
+
+    /// The header's length, which is the frame's place.
+    pub fn length(&self) -> usize {
+        self.frame
+    }
+
+    /// The pad octet as found.
+    pub fn pad(&self) -> u8 {
+        self.pad
+    }
+
+    /// The presence words.
+    pub fn words(&self) -> impl ExactSizeIterator<Item = u32> + '_ {
+        (0..self.words).map(|number| ffi::radiotap::word(self.octets, number).value as u32)
+    }
+}
+
+impl<'a> Field<'a> {
+    /// The field of which the library gives these numbers.
+    fn of(octets: &'a [u8], numbers: &[u64]) -> Field<'a> {
+        let (start, size) = (numbers[2] as usize, numbers[3] as usize);
+        Field {
+            word: numbers[0] as u32,
+            bit: numbers[1] as u32,
+            start,
+            octets: &octets[start..][..size],
+        }
+    }
+
+    /// The presence word, from 0.
+    pub fn word(&self) -> u32 {
+        self.word
+    }
+
+    /// The bit in it, from 0.
+    pub fn bit(&self) -> u32 {
+        self.bit
+    }
+
+    /// The published name.
+    pub fn name(&self) -> &'static str {
+        name(self.bit).unwrap_or_default()
+    }
+
+    /// The place where the field starts, from the header's start.
+    pub fn start(&self) -> usize {
+        self.start
+    }
+
+    /// The field's octets, a part of the input; its numbers are little-endian.
+    pub fn octets(&self) -> &'a [u8] {
+        self.octets
+    }
+
+    /// The value in dBm, for the three fields that are one (bits 5, 6 and 10).
+    pub fn dbm(&self) -> Option<i8> {
+        match (self.bit, self.octets) {
+            (5 | 6 | 10, &[octet]) => Some(octet as i8),
+            _ => None,
+        }
+    }
+}
+
+/// The published names of bits 0 to 28.
+const NAMES: [&str; 29] = [
+    "TSFT",
+    "Flags",
+    "Rate",
+    "Channel",
+    "FHSS",
+    "Antenna signal",
+    "Antenna noise",
+    "Lock quality",
+    "TX attenuation",
+    "dB TX attenuation",
+    "dBm TX power",
+    "Antenna",
+    "dB antenna signal",
+    "dB antenna noise",
+    "RX flags",
+    "TX flags",
+    "RTS retries",
+    "data retries",
+    "XChannel",
+    "MCS",
+    "A-MPDU status",
+    "VHT",
+    "timestamp",
+    "HE",
+    "HE-MU",
+    "HE-MU-other-user",
+    "0-length-PSDU",
+    "L-SIG",
+    "TLV",
+];
+
+/// The published name of the field that a bit calls for; bits 29 to 31 call for none.
+pub fn name(bit: u32) -> Option<&'static str> {
+    NAMES.get(bit as usize).copied()
+}
+
+/// Writes a header with one presence word into an output at a place and answers the place after it.
+///
+/// The values are packed without gaps in bit order. Pad octets are 0. Refusals: 15, 18, 19, 13; a refusal changes
+/// nothing, and an accepted write only the octets written.
+pub fn write(
+    output: &mut [u8],
+    place: usize,
+    edition: u32,
+    presence: u32,
+    values: &[u8],
+) -> Result<usize, Refusal> {
+    ffi::radiotap::write(output, place, edition, presence, values)
+}
+
+/// As [`write`](write()), at the end of the octets. Refusals: 15, 18, 19; the octets are then as before.
+pub fn push(
+    octets: &mut Vec<u8>,
+    edition: u32,
+    presence: u32,
+    values: &[u8],
+) -> Result<(), Refusal> {
+    let room = FIXED + MOST_PAD + values.len();
+    write::push(octets, room, |output, place| {
+        write(output, place, edition, presence, values)
+    })
+}

@@ -1,0 +1,74 @@
+//! The running tally of a capture's records.
+
+use crate::{ffi, Record, Refusal};
+
+/// A running tally, updated record by record. A new one is empty.
+///
+/// ```
+/// # use zalghimo::{push_header, push_record, Capture, RecordFields, Tally};
+/// # let mut octets = Vec::new();
+/// # push_header(&mut octets, 1002)?;
+/// # push_record(&mut octets, &RecordFields { original_length: 9, flags: 3, ..Default::default() }, &[4, 0])?;
+/// let mut tally = Tally::new();
+/// for record in Capture::new(&octets)?.records() {
+///     tally.add(&record?)?;
+/// }
+/// assert_eq!((tally.records(), tally.received(), tally.commands()), (1, 1, 1));
+/// # Ok::<(), zalghimo::Refusal>(())
+/// ```
+#[derive(Clone, Copy, Debug, Default, PartialEq, Eq, Hash)]
+pub struct Tally {
+    numbers: [u64; 6],
+}
+
+impl Tally {
+    /// An empty tally.
+    pub fn new() -> Tally {
+        Tally::default()
+    }
+
+    /// A tally to go on from, as [`Tally::numbers`] gave it.
+    pub fn from_numbers(numbers: [u64; 6]) -> Tally {
+        Tally { numbers }
+    }
+
+    /// Adds a record. Refusal: 16, where a sum would pass 2^64 − 1; the tally is then as before.
+    pub fn add(&mut self, record: &Record) -> Result<(), Refusal> {
+        ffi::btsnoop::tally(&mut self.numbers, record.fields(), record.included_length()).accepted()
+    }
+
+    /// Records, received, commands, octets included, lost, last drop number.
+    pub fn numbers(&self) -> [u64; 6] {
+        self.numbers
+    }
+
+    /// How many records.
+    pub fn records(&self) -> u64 {
+        self.numbers[0]
+    }
+
+    /// How many of them were received.
+    pub fn received(&self) -> u64 {
+        self.numbers[1]
+    }
+
+    /// How many of them are commands or events.
+    pub fn commands(&self) -> u64 {
+        self.numbers[2]
+    }
+
+    /// The included lengths summed.
+    pub fn octets_included(&self) -> u64 {
+        self.numbers[3]
+    }
+
+    /// The drops between one record and the next, summed.
+    pub fn lost(&self) -> u64 {
+        self.numbers[4]
+    }
+
+    /// The last record's cumulative drops; `None` while there are no records.
+    pub fn last_drop_number(&self) -> Option<u32> {
+        (self.records() > 0).then_some(self.numbers[5] as u32)
+    }
+}

@@ -1,0 +1,48 @@
+//! The time of a record.
+
+use crate::{ffi, Refusal};
+use std::time::{Duration, SystemTime, UNIX_EPOCH};
+
+/// Unix time: seconds, rounded down, and microseconds.
+#[derive(Clone, Copy, Debug, Default, PartialEq, Eq, PartialOrd, Ord, Hash)]
+pub struct Time {
+    /// Seconds since 1 January 1970, below 0 before it.
+    pub seconds: i64,
+    /// Microseconds after the second, 0 to 999,999.
+    pub microseconds: u32,
+}
+
+impl Time {
+    /// Converts a record's time field. Refusal: 14, where the time is before −2^63 microseconds.
+    pub fn from_field(field: i64) -> Result<Time, Refusal> {
+        let answer = ffi::btsnoop::read_time(field);
+        answer.head.accepted()?;
+        Ok(Time {
+            seconds: answer.seconds,
+            microseconds: answer.microseconds as u32,
+        })
+    }
+
+    /// Converts to a record's time field. Refusal: 14, for microseconds above 999,999 or a field out of range.
+    ///
+    /// ```
+    /// let year_2000 = zalghimo::Time { seconds: 946_684_800, microseconds: 0 };
+    /// assert_eq!(year_2000.to_field()?, 0x00E0_3AB4_4A67_6000);
+    /// # Ok::<(), zalghimo::Refusal>(())
+    /// ```
+    pub fn to_field(self) -> Result<i64, Refusal> {
+        let answer = ffi::btsnoop::write_time(self.seconds, self.microseconds);
+        answer.head.accepted()?;
+        Ok(answer.field)
+    }
+
+    /// The time on the system's clock, where that can express it.
+    pub fn system_time(self) -> Option<SystemTime> {
+        let seconds = Duration::from_secs(self.seconds.unsigned_abs());
+        let second = match self.seconds {
+            0.. => UNIX_EPOCH.checked_add(seconds),
+            _ => UNIX_EPOCH.checked_sub(seconds),
+        };
+        second?.checked_add(Duration::from_micros(self.microseconds.into()))
+    }
+}

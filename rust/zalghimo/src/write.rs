@@ -1,0 +1,70 @@
+//! Writing a BTSnoop file.
+
+use crate::{ffi, RecordFields, Refusal};
+
+/// Octets of a file header.
+const HEADER: usize = 16;
+
+/// Octets of a record before its packet.
+const RECORD: usize = 24;
+
+/// Writes a file header into an output at a place and answers the place after it. Refusals: 4, 13.
+///
+/// A refusal changes nothing, and an accepted write only the octets written.
+pub fn write_header(output: &mut [u8], place: usize, datalink: u32) -> Result<usize, Refusal> {
+    ffi::btsnoop::write_header(output, place, datalink)
+}
+
+/// Writes a record into an output at a place and answers the place after it. Refusals: 6, 13.
+///
+/// The included length is that of the packet. A refusal changes nothing, and an accepted write only the octets written.
+///
+/// ```
+/// use zalghimo::{write_header, write_record, RecordFields};
+///
+/// let mut output = [0; 64];
+/// let fields = RecordFields { original_length: 3, ..Default::default() };
+/// let first = write_header(&mut output, 0, 1002)?;
+/// let end = write_record(&mut output, first, &fields, &[1, 2, 3])?;
+/// assert_eq!(zalghimo::check(&output[..end])?.records, 1);
+/// # Ok::<(), zalghimo::Refusal>(())
+/// ```
+pub fn write_record(
+    output: &mut [u8],
+    place: usize,
+    fields: &RecordFields,
+    packet: &[u8],
+) -> Result<usize, Refusal> {
+    ffi::btsnoop::write_record(output, place, fields, packet)
+}
+
+/// Writes a file header at the end of the octets. Refusal: 4; the octets are then as before.
+pub fn push_header(octets: &mut Vec<u8>, datalink: u32) -> Result<(), Refusal> {
+    push(octets, HEADER, |output, place| {
+        write_header(output, place, datalink)
+    })
+}
+
+/// Writes a record at the end of the octets. Refusal: 6; the octets are then as before.
+pub fn push_record(
+    octets: &mut Vec<u8>,
+    fields: &RecordFields,
+    packet: &[u8],
+) -> Result<(), Refusal> {
+    push(octets, RECORD + packet.len(), |output, place| {
+        write_record(output, place, fields, packet)
+    })
+}
+
+/// Makes room at the end, writes there, and keeps what was written.
+pub(crate) fn push(
+    octets: &mut Vec<u8>,
+    room: usize,
+    write: impl FnOnce(&mut [u8], usize) -> Result<usize, Refusal>,
+) -> Result<(), Refusal> {
+    let start = octets.len();
+    octets.resize(start + room, 0);
+    let written = write(octets, start);
+    octets.truncate(*written.as_ref().unwrap_or(&start));
+    written.map(|_| ())
+}

@@ -1,0 +1,150 @@
+//! What is written is read again, and what is read is written again.
+
+mod made;
+
+use made::{file, p3};
+use zalghimo::le::{self, Dependent, Packet, PduType, Phy, Values};
+use zalghimo::radiotap::{self, Ending, Header};
+use zalghimo::{push_header, push_record, write_header, write_record, Capture};
+
+#[test]
+fn a_capture_is_written_to_its_own_octets() {
+    for octets in [p3(), file(&[])] {
+        let capture = Capture::new(&octets).expect("accepted");
+        let mut copy = Vec::new();
+        push_header(&mut copy, capture.datalink()).expect("written");
+        let mut output = vec![0xEE; octets.len() + 1];
+        let mut place = write_header(&mut output, 0, capture.datalink()).expect("written");
+        for record in capture.records() {
+            let record = record.expect("whole");
+            push_record(&mut copy, record.fields(), record.packet()).expect("written");
+            place = write_record(&mut output, place, record.fields(), record.packet())
+                .expect("written");
+        }
+        assert_eq!(copy, octets);
+        assert_eq!(
+            (&output[..place], &output[place..]),
+            (&octets[..], &[0xEE][..])
+        );
+    }
+}
+
+/// Octets packed for each bit, in bit order.
+const SIZES: [(u32, usize); 21] = [
+    (0, 8),
+    (1, 1),
+    (2, 1),
+    (3, 4),
+    (4, 2),
+    (5, 1),
+    (6, 1),
+    (7, 2),
+    (8, 2),
+    (9, 2),
+    (10, 1),
+    (11, 1),
+    (12, 1),
+    (13, 1),
+    (14, 2),
+    (15, 2),
+    (16, 1),
+    (17, 1),
+    (19, 3),
+    (20, 8),
+    (21, 12),
+];
+
+#[test]
+fn radiotap_fields_come_out_as_written() {
+    let all: u32 = SIZES.iter().map(|(bit, _)| 1 << bit).sum();
+    for presence in [0, 1, 0x2F, 0x0010_0002, 0x0028_4421, all] {
+        let chosen = SIZES.iter().filter(|(bit, _)| presence >> bit & 1 == 1);
+        let count: usize = chosen.clone().map(|(_, size)| size).sum();
+        let values: Vec<u8> = (0..count).map(|index| 200 + index as u8 % 50).collect();
+        let mut octets = vec![0xEE; 3];
+        radiotap::push(&mut octets, 3, presence, &values).expect("written");
+        octets.extend([0xD4, 0x00]);
+
+        let header = Header::read(&octets[3..], 3).expect("accepted");
+        assert!(header
+            .fields()
+            .map(|field| field.bit())
+            .eq(chosen.map(|(bit, _)| *bit)));
+        let read: Vec<u8> = header
+            .fields()
+            .flat_map(|field| field.octets().to_vec())
+            .collect();
+        assert_eq!(read, values);
+        assert_eq!((header.ending(), header.pad()), (Ending::End, 0));
+        assert!(header.words().eq([presence]));
+        assert_eq!(header.frame(), [0xD4, 0x00]);
+
+        let mut again = vec![0; header.length()];
+        let end = radiotap::write(&mut again, 0, 3, presence, &read).expect("written");
+        assert_eq!((end, &again[..]), (header.length(), &octets[3..3 + end]));
+    }
+}
+
+#[test]
+fn dbm_fields_are_signed() {
+    let mut octets = Vec::new();
+    radiotap::push(&mut octets, 1, 0x0462, &[0x80, 0x80, 0xFF, 0x14]).expect("written");
+    let header = Header::read(&octets, 0).expect("accepted");
+    let values: Vec<_> = header.fields().map(|field| field.dbm()).collect();
+    assert_eq!(values, [None, Some(-128), Some(-1), Some(20)]);
+    let names: Vec<_> = header.fields().map(|field| field.name()).collect();
+    assert_eq!(
+        names,
+        ["Flags", "Antenna signal", "Antenna noise", "dBm TX power"]
+    );
+    assert!(header.fields().all(|field| field.word() == 0));
+}
+
+#[test]
+fn le_octets_are_kept() {
+    let octets: Vec<u8> = vec![39, 0x80, 0xFF, 9, 1, 2, 3, 4, 0x7E, 0x28, 5, 6, 7, 8, 9];
+    let read = Packet::read(&octets).expect("accepted");
+    assert_eq!((read.signal(), read.noise()), (Some(-128), Some(-1)));
+    assert_eq!(read.reference_address(), Some(0x0403_0201));
+    assert_eq!((read.offences(), read.flags()), (Some(9), 0x287E));
+    assert_eq!(
+        (read.pdu_type(), read.phy()),
+        (PduType::AdvertisingOrData, Phy::OneM)
+    );
+    let mut copy = Vec::new();
+    le::push(&mut copy, read.values(), read.packet()).expect("written");
+    assert_eq!(copy, octets);
+}
+
+#[test]
+fn le_values_are_known_or_not() {
+    for pdu_type in PduType::ALL {
+        for phy in Phy::ALL {
+            let values = Values {
+                rf_channel: 7,
+                flags: 0x3000,
+                ..Default::default()
+            };
+            let values = values.with_pdu_type(pdu_type).with_phy(phy);
+            let values = values.with_noise(Some(-90)).with_offences(Some(3));
+            let values = values.with_signal(Some(1)).with_signal(None);
+            let values = values.with_reference_address(Some(0x8E89_BED6));
+            let mut octets = Vec::new();
+            le::push(&mut octets, &values, &[1, 2, 3, 4, 5]).expect("written");
+            let read = Packet::read(&octets).expect("accepted");
+            assert_eq!((read.pdu_type(), read.phy()), (pdu_type, phy));
+            assert_eq!((read.signal(), read.noise()), (None, Some(-90)));
+            assert_eq!(read.offences(), Some(3));
+            assert_eq!(read.reference_address(), Some(0x8E89_BED6));
+            assert_eq!(read.packet(), [1, 2, 3, 4, 5]);
+            let dependent = match pdu_type {
+                PduType::AuxiliaryAdvertising => Dependent::AuxiliaryKind(3),
+                _ => Dependent::Mic {
+                    checked: true,
+                    passed: true,
+                },
+            };
+            assert_eq!(read.dependent(), dependent);
+        }
+    }
+}
