@@ -1,15 +1,17 @@
 //! Compares the static library with the model, answer by answer.
-//! Usage: compare [COUNT] [SEED]
+//! Usage: compare [--progress] [COUNT] [SEED]
 
 mod btsnoop;
 mod c_struct;
 mod le;
 mod lent;
 mod places;
+mod progress;
 mod radiotap;
 mod report;
 mod tally;
 
+use progress::Progress;
 use random::prng::Prng;
 use report::Report;
 use std::process::ExitCode;
@@ -29,40 +31,47 @@ pub struct Session {
 /// Questions asked in a session.
 type Questions = fn(&mut Session);
 
-/// The ends and the round of each format and of the tally.
-const FORMATS: [(Questions, Questions); 4] = [
-    (btsnoop::ends::all, btsnoop::round),
-    (radiotap::ends::all, radiotap::round),
-    (le::ends::all, le::round),
-    (tally::ends::all, tally::round),
+/// The name, the ends and the round of each format and of the tally.
+const FORMATS: [(&str, Questions, Questions); 4] = [
+    ("btsnoop", btsnoop::ends::all, btsnoop::round),
+    ("radiotap", radiotap::ends::all, radiotap::round),
+    ("LE", le::ends::all, le::round),
+    ("tally", tally::ends::all, tally::round),
 ];
 
-/// The numbers given as arguments, or the defaults.
-fn arguments() -> Option<(u64, u64)> {
-    let given = std::env::args().skip(1).map(|text| text.parse().ok());
-    match given.collect::<Option<Vec<u64>>>()?.as_slice() {
-        [] => Some((COUNT, SEED)),
-        [count] => Some((*count, SEED)),
-        [count, seed] => Some((*count, *seed)),
+/// What the arguments ask for: count, seed, and whether progress is shown.
+fn arguments() -> Option<(u64, u64, bool)> {
+    let words: Vec<String> = std::env::args().skip(1).collect();
+    let (asked, numbers): (Vec<_>, Vec<_>) = words.iter().partition(|word| *word == "--progress");
+    let numbers = numbers.into_iter().map(|text| text.parse().ok());
+    let progress = !asked.is_empty();
+    match numbers.collect::<Option<Vec<u64>>>()?.as_slice() {
+        [] => Some((COUNT, SEED, progress)),
+        [count] => Some((*count, SEED, progress)),
+        [count, seed] => Some((*count, *seed, progress)),
         _ => None,
     }
 }
 
 fn main() -> ExitCode {
-    let Some((count, seed)) = arguments() else {
-        eprintln!("usage: compare [COUNT] [SEED]");
+    let Some((count, seed, progress)) = arguments() else {
+        eprintln!("usage: compare [--progress] [COUNT] [SEED]");
         return ExitCode::from(2);
     };
     let mut session = Session {
         prng: Prng::new(seed),
         report: Report::default(),
     };
-    for (ends, round) in FORMATS {
+    let mut progress = Progress::new(progress);
+    for (name, ends, round) in FORMATS {
+        progress.format(name);
         ends(&mut session);
         for _ in 0..count {
             round(&mut session);
+            progress.round(&session.report);
         }
     }
+    progress.finish();
     if session.report.finish() {
         ExitCode::SUCCESS
     } else {

@@ -56,14 +56,24 @@ impl Report {
         }
     }
 
+    /// How many answers were compared.
+    pub fn answers(&self) -> u64 {
+        self.counts.values().sum()
+    }
+
+    /// How many of them differed.
+    pub fn differences(&self) -> u64 {
+        self.differences
+    }
+
     /// Prints the counts; true when nothing differed.
     pub fn finish(&self) -> bool {
         for (function, count) in &self.counts {
             println!("{count:>10}  {function}");
         }
-        let total: u64 = self.counts.values().sum();
         println!(
-            "comparison: {total} answers compared, {} differences",
+            "comparison: {} answers compared, {} differences",
+            self.answers(),
             self.differences
         );
         self.differences == 0
