@@ -11,7 +11,7 @@ ghost use Rattle.radiotap.specs.Says.{opening, readSays, fieldSays, Fiel
 ghost use Rattle.radiotap.specs.Outcomes.{outcome, walkSays, KeptInside, SummarisedAs, NumberedAs, keptField, valuedAs};
 use radiotap_head::HeadAnswer;
 use radiotap_rules::Head;
-use radiotap_step::Step;
+use radiotap_step::FIELD_PAST;
 use radiotap_table::EDITION_ABOVE;
 use refusals::Refusal;
 
@@ -128,13 +128,21 @@ enum Walked {
     },
 }
 
-// Walks over all fields behind a head in an edition, and keeps the field of a number: one pass.
+// Walks over all fields behind a head in an edition, and keeps the field of a number: one pass, in which the bits of a
+// presence word are cleared one by one up to the one that stops the walk.
 fn walk(s: &[u8], edition: u32, head: Head, number: usize) -> Walked
     requires { ⌜ headAt (now s) ≡ given head ⌝ }
     ensures { λ r. ⌜ walkSays (now (s .entry)) r ≡ outcome number (readWords ourRules edition (now (s .entry)) (head .size) (presenceWords (now (s .entry)) (head .size))) ⌝ }
     ensures { λ r. ⌜ KeptInside (now (s .entry)) r ⌝ }
 {
-    let mut cursor = radiotap_head::start(head);
+    let known = radiotap_table::known(edition);
+    let size = head.size as usize;
+    let words = head.words as u32;
+    let first = radiotap_table::carries(head.first, known);
+    let mut index: u32 = 0;
+    let mut left = first.left;
+    let mut stop = first.stop;
+    let mut at = 4 + 4 * words;
     let mut fields = 0;
     let mut kept = Kept {
         word: 0,
@@ -143,39 +151,43 @@ fn walk(s: &[u8], edition: u32, head: Head, number: usize) -> Walked
         size: 0,
     };
     loop {
-        match radiotap_step::next(s, edition, cursor) {
-            Step::Refused(refusal) => {
-                return Walked::Refused(refusal);
+        let bit = u32::trailing_zeros(left);
+        if bit != stop {
+            let place = radiotap_table::lies_at(bit as usize, at);
+            let end = place.start + place.size as usize;
+            if size < end {
+                return Walked::Refused(Refusal {
+                    number: FIELD_PAST,
+                    place: place.start,
+                });
             }
-            Step::End => {
-                return Walked::Ended { fields, kept };
+            if fields == number {
+                kept = Kept {
+                    word: index,
+                    bit,
+                    start: place.start,
+                    size: place.size,
+                };
             }
-            Step::Stop { word, bit } => {
+            fields += 1;
+            at = end as u32;
+            left = left & (left - 1);
+        } else {
+            if stop < 32 {
                 return Walked::Stopped {
                     fields,
                     kept,
-                    word,
-                    bit,
+                    word: index,
+                    bit: stop,
                 };
             }
-            Step::Field {
-                word,
-                bit,
-                start,
-                size,
-                next,
-            } => {
-                if fields == number {
-                    kept = Kept {
-                        word,
-                        bit,
-                        start,
-                        size,
-                    };
-                }
-                fields += 1;
-                cursor = next;
+            index += 1;
+            if index == words {
+                return Walked::Ended { fields, kept };
             }
+            let next = radiotap_table::carries(octets::le32(s, 4 + 4 * index as usize), known);
+            left = next.left;
+            stop = next.stop;
         }
     }
 }

@@ -45,6 +45,10 @@ alignment-masked a at ok =
     let p = alignment-power a ok in
     subst (λ (x : ℕ). at + (x - 1) - bitAnd (at + (x - 1)) (x - 1) ≡ aligned x at) (p .1) (power-masked (p .0) at)
 
+-- the same for 256
+pub masked-256 : (at : ℕ) → at + 255 - bitAnd (at + 255) 255 ≡ aligned 256 at
+masked-256 at = power-masked 8 at
+
 -- an alignment is at most 8
 pub alignment-most : (a : ℕ) → alignmentOk a ≡ true → a ≤ 8
 alignment-most a = go (eqb a 1) (eqb a 2) (eqb a 4) (eqb a 8) (is 1 (omega arith)) (is 2 (omega arith)) (is 4 (omega arith)) (is 8 (omega arith))

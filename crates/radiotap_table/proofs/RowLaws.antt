@@ -1,35 +1,21 @@
--- The rows as an array of three numbers each, what the table's test says of them, and where a field lies by what is read.
+-- What the table's test says of its rows, where a field lies by its row as it is read, and which row a bit has.
 -- Assumes nothing.
 use Prim.Native.Nat.{ℕ, zero, suc, _≤_, _<_, _+_, _-_}
-use mathlib.Core.Path.{_≡_, refl, sym, _∙_}
+use mathlib.Core.Path.{_≡_, refl, sym, ap, _∙_}
 use mathlib.Core.Bool.{Bool, true, false, cond, _&&_, and-eq-true-iff}
-use mathlib.Core.List.{List, [], _∷_, map}
+use mathlib.Core.List.{List, [], _∷_}
 use native.Mathlib.Omega.{arith}
-use lib.ListN.{length, getD, List·getD-eq-default}
+use lib.ListN.{getD, List·getD-eq-default}
 use native.Mathlib.Nat.{div-mul-le-self}
 use lib.Dec.{leb, ltb}
 use borrow.Author.Tests.{leb-true, le-leb, lt-leb, ne-eqb}
 use Rattle.radiotap_rules.specs.Rules.{Row, Rules, unknown, rowOf, knows, alignmentOk, rowOk, rowsOk, tableOk}
+use Rattle.radiotap_rules.specs.Table.{ourRules}
 use Rattle.radiotap_rules.specs.Reading.{aligned}
 use Rattle.radiotap_rules.specs.Answers.{unknownField, lies, layOf}
+use Rattle.radiotap_table.specs.Rows.{numbersOf, numbersIn}
+use Rattle.radiotap_table.specs.Says.{AlignedAs}
 use Rattle.radiotap_table.proofs.RoundLaws.{alignment-most}
-
--- a row's three numbers
-abbrev pub numbersOf : Row → List ℕ
-numbersOf r = r .alignment ∷ r .size ∷ r .first ∷ []
-
--- number k of the row of a field number, read from the array
-abbrev pub numberIn : Rules → (n k : ℕ) → ℕ
-numberIn rules n k = getD (getD (map numbersOf (rules .rows)) n []) k 0
-
--- what is read is the number of that row; past the rows it is 0, as in an unknown row
-row-read : (rs : List Row) (n k : ℕ) → getD (getD (map numbersOf rs) n []) k 0 ≡ getD (numbersOf (getD rs n unknown)) k 0
-row-read [] n zero = refl
-row-read [] n (suc zero) = refl
-row-read [] n (suc (suc zero)) = refl
-row-read [] n (suc (suc (suc k))) = refl
-row-read (r ∷ rs) zero k = refl
-row-read (r ∷ rs) (suc n) k = row-read rs n k
 
 -- every row of rows that pass the test passes it
 row-ok : (newest : ℕ) (rs : List Row) (n : ℕ) → rowsOk newest rs ≡ true → rowOk newest (getD rs n unknown) ≡ true
@@ -46,15 +32,6 @@ rows-ok rules = first _ _ _ _ _ _
     first false b c d e f h = h
 
 module _ (rules : Rules) (n : ℕ) where
-  alignment-read : numberIn rules n 0 ≡ rowOf rules n .alignment
-  alignment-read = row-read (rules .rows) n 0
-
-  size-read : numberIn rules n 1 ≡ rowOf rules n .size
-  size-read = row-read (rules .rows) n 1
-
-  first-read : numberIn rules n 2 ≡ rowOf rules n .first
-  first-read = row-read (rules .rows) n 2
-
   -- what the test says of a row that some edition knows
   some-knows : tableOk rules ≡ true → 1 ≤ rowOf rules n .first
       → ((alignmentOk (rowOf rules n .alignment) && ltb 0 (rowOf rules n .size)) ≡ true) × (leb (rowOf rules n .first) (rules .newest) ≡ true)
@@ -68,52 +45,11 @@ module _ (rules : Rules) (n : ℕ) where
       let above : 1 ≤ rowOf rules n .first = leb-true 1 (rowOf rules n .first) (and-eq-true-iff _ _ .0 e .0) in
       and-eq-true-iff _ _ .0 (some-knows ok above .0) .0
 
-  -- no row is of an edition above the newest
-  first-below : tableOk rules ≡ true → rowOf rules n .first ≤ rules .newest
-  first-below ok = go (rowOf rules n .first) refl
-    where
-      go : (f : ℕ) → rowOf rules n .first ≡ f → rowOf rules n .first ≤ rules .newest
-      go zero e = omega arith
-      go (suc f) e = leb-true (rowOf rules n .first) (rules .newest) (some-knows ok (omega arith) .1)
-
-  -- an edition knows a field whose row, as read, is of some edition that is not later
-  known : (edition : ℕ) → (numberIn rules n 2 ≡ 0 → ⊥) → numberIn rules n 2 ≤ edition → knows rules edition n ≡ true
-  known edition some l =
-      let some′ : rowOf rules n .first ≡ 0 → ⊥ = λ z. some (first-read ∙ z) in
-      rw (le-leb 1 (rowOf rules n .first) (omega arith), le-leb (rowOf rules n .first) edition (rw first-read at l))
-
-  -- the array's edition is not above the newest
-  pub edition-below : tableOk rules ≡ true → numberIn rules n 2 ≤ rules .newest
-  edition-below ok = rw first-read (first-below ok)
-
-  -- the array's alignment of a field that the edition knows
-  pub alignment-ok : (edition : ℕ) → tableOk rules ≡ true → (numberIn rules n 2 ≡ 0 → ⊥) → numberIn rules n 2 ≤ edition
-      → alignmentOk (numberIn rules n 0) ≡ true
-  alignment-ok edition ok some l = rw alignment-read (known-alignment edition ok (known edition some l))
-
   module _ (edition at : ℕ) where
-    -- past the rows a field is unknown
-    pub lay-past : length (rules .rows) ≤ n → unknownField ≡ layOf rules edition n at
+    -- a field that the edition does not know
+    pub lay-unknown : knows rules edition n ≡ false → layOf rules edition n at ≡ unknownField
     unfolding layOf
-    lay-past h = rw (List·getD-eq-default (rules .rows) unknown {n = n} h)
-
-    -- a field of no edition is unknown
-    pub lay-none : numberIn rules n 2 ≡ 0 → unknownField ≡ layOf rules edition n at
-    unfolding layOf
-    lay-none e = rw (sym first-read ∙ e)
-
-    -- a field of a later edition is unknown
-    pub lay-later : edition < numberIn rules n 2 → unknownField ≡ layOf rules edition n at
-    unfolding layOf
-    lay-later l =
-        let later : edition < rowOf rules n .first = rw first-read at l in
-        rw (le-leb 1 (rowOf rules n .first) (omega arith), lt-leb (rowOf rules n .first) edition later)
-
-    -- any other field is known, and lies at the next multiple of its alignment
-    pub lay-known : (start : ℕ) → (numberIn rules n 2 ≡ 0 → ⊥) → numberIn rules n 2 ≤ edition → start ≡ aligned (numberIn rules n 0) at
-        → lies start (numberIn rules n 1) ≡ layOf rules edition n at
-    unfolding layOf
-    lay-known start some l e = rw (known edition some l, e, alignment-read, size-read)
+    lay-unknown e = rw e
 
     -- a known field starts less than an alignment behind the first free place
     pub lay-near : (start size : ℕ) → tableOk rules ≡ true → layOf rules edition n at ≡ lies start size → start < at + 8
@@ -129,3 +65,62 @@ module _ (rules : Rules) (n : ℕ) where
             let same : aligned a at ≡ start = cc in
             omega (arith, same, div-mul-le-self (at + (a - 1)) a, alignment-most a (known-alignment edition ok e))
         go false e l = let z : _≡_ {A = ℕ} 0 1 = cc in absurd (omega arith)
+
+-- a row as it is read: three numbers
+module _ (rules : Rules) (n : ℕ) {r : List ℕ} (reads : r ≡ numbersIn rules n) where
+  alignment-read : getD r 0 0 ≡ rowOf rules n .alignment
+  alignment-read = ap (λ (xs : List ℕ). getD xs 0 0) reads
+
+  size-read : getD r 1 0 ≡ rowOf rules n .size
+  size-read = ap (λ (xs : List ℕ). getD xs 1 0) reads
+
+  first-read : getD r 2 0 ≡ rowOf rules n .first
+  first-read = ap (λ (xs : List ℕ). getD xs 2 0) reads
+
+  -- a field by its row alone
+  pub row-placed : (at start : ℕ) → AlignedAs (getD r 0 0) at start
+      → (getD r 1 0 ≡ rowOf rules n .size) × (rowOf rules n .alignment ≡ 0 → start ≡ aligned 256 at)
+  row-placed at start next = (size-read, λ none. next .1 (alignment-read ∙ none))
+
+  -- an edition knows a field whose row, as read, is of some edition that is not later
+  pub known : (edition : ℕ) → (getD r 2 0 ≡ 0 → ⊥) → getD r 2 0 ≤ edition → knows rules edition n ≡ true
+  known edition some l =
+      let some′ : rowOf rules n .first ≡ 0 → ⊥ = λ z. some (first-read ∙ z) in
+      rw (le-leb 1 (rowOf rules n .first) (omega arith), le-leb (rowOf rules n .first) edition (rw first-read at l))
+
+  module _ (edition at : ℕ) where
+    -- a field of no edition is unknown
+    pub lay-none : getD r 2 0 ≡ 0 → unknownField ≡ layOf rules edition n at
+    unfolding layOf
+    lay-none e = rw (sym first-read ∙ e)
+
+    -- a field of a later edition is unknown
+    pub lay-later : edition < getD r 2 0 → unknownField ≡ layOf rules edition n at
+    unfolding layOf
+    lay-later l =
+        let later : edition < rowOf rules n .first = rw first-read at l in
+        rw (le-leb 1 (rowOf rules n .first) (omega arith), lt-leb (rowOf rules n .first) edition later)
+
+    -- a field that the edition knows lies at the next multiple of its alignment
+    pub lay-known : (start : ℕ) → tableOk rules ≡ true → AlignedAs (getD r 0 0) at start → knows rules edition n ≡ true
+        → layOf rules edition n at ≡ lies start (getD r 1 0)
+    unfolding layOf
+    lay-known start ok next k =
+        let same : start ≡ aligned (getD r 0 0) at = next .0 (rw alignment-read (known-alignment rules n edition ok k)) in
+        rw (k, same, alignment-read, size-read)
+
+-- a number that is none of so many from 0 on
+abbrev NoneOf : (k n : ℕ) → Type 0
+NoneOf zero n = Unit {0}
+NoneOf (suc k) n = NoneOf k n × (n ≡ k → ⊥)
+
+none-above : (k n : ℕ) → NoneOf k n → k ≤ n
+none-above zero n h = omega arith
+none-above (suc k) n h = let l = none-above k n (h .0) in let other = h .1 in omega arith
+
+-- the row of a bit that is a number, and of one that is none of the rows'
+pub row-is : {bit : ℕ} (k : ℕ) → bit ≡ k → numbersIn ourRules k ≡ numbersIn ourRules bit
+row-is k e = ap (numbersIn ourRules) (sym e)
+
+pub row-past : {bit : ℕ} → NoneOf 32 bit → 0 ∷ 0 ∷ 0 ∷ [] ≡ numbersIn ourRules bit
+row-past {bit} h = ap numbersOf (sym (List·getD-eq-default (ourRules .rows) unknown {n = bit} (none-above 32 bit h)))

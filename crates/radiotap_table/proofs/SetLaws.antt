@@ -12,15 +12,15 @@ use Rattle.radiotap_rules.specs.Reading.{bitSet, wordBits}
 use Rattle.radiotap_table.specs.Bits.{NextSet}
 
 -- a bit from a place on is a bit of the number shifted right by that place
-bit-shifted : (n k i j : ℕ) → k + j ≡ i → bitSet n i ≡ bitSet (n / 2 ^ k) j
+pub bit-shifted : (n k i j : ℕ) → k + j ≡ i → bitSet n i ≡ bitSet (n / 2 ^ k) j
 bit-shifted n k i j e = rw (← e) (ap (λ (m : ℕ). eqb (m % 2) 1) (sym (shr-shr n k j)))
 
 -- bit 0 is the remainder by 2
-bit-zero : (n : ℕ) → bitSet n 0 ≡ eqb (n % 2) 1
+pub bit-zero : (n : ℕ) → bitSet n 0 ≡ eqb (n % 2) 1
 bit-zero n = ap (λ (m : ℕ). eqb (m % 2) 1) (div-one n)
 
 -- the bits below the lowest set one are clear
-trailing-clear : (k n i : ℕ) → i < trailingZeros k n → bitSet n i ≡ false
+pub trailing-clear : (k n i : ℕ) → i < trailingZeros k n → bitSet n i ≡ false
 unfolding trailingZeros
 trailing-clear zero n i h = absurd (omega arith)
 trailing-clear (suc k) n i h = go i (n % 2) refl h (trailing-clear k (n / 2))
@@ -32,7 +32,7 @@ trailing-clear (suc k) n i h = go i (n % 2) refl h (trailing-clear k (n / 2))
     go i (suc d) e h rest = absurd (omega arith)
 
 -- the bit behind them is set
-trailing-set : (k n : ℕ) → trailingZeros k n < k → bitSet n (trailingZeros k n) ≡ true
+pub trailing-set : (k n : ℕ) → trailingZeros k n < k → bitSet n (trailingZeros k n) ≡ true
 unfolding trailingZeros
 trailing-set zero n h = absurd (omega arith)
 trailing-set (suc k) n h = go (n % 2) refl h (trailing-set k (n / 2))

@@ -1,7 +1,10 @@
 -- The set bits of a presence word, one after another.
-use Prim.Native.Nat.{ℕ, _≤_, _<_}
+use Prim.Native.Nat.{ℕ, _^_, _≤_, _<_}
 use mathlib.Core.Path.{_≡_}
-use mathlib.Core.Bool.{true, false}
+use mathlib.Core.Bool.{Bool, true, false, not, _&&_, _||_}
+use lib.Dec.{eqb}
+use Rattle.radiotap_rules.specs.Rules.{knows}
+use Rattle.radiotap_rules.specs.Table.{ourRules}
 use Rattle.radiotap_rules.specs.Reading.{bitSet, wordBits}
 
 -- the first set bit of a word from a bit on: set, and every bit before it clear; past the word's bits where there is none
@@ -10,3 +13,28 @@ pub record NextSet (word from next : ℕ) : Type 0 where
   pub set : next < wordBits → bitSet word next ≡ true
   pub low : next < wordBits → from ≤ next
   pub high : next ≤ wordBits
+
+-- a word whose set bits are those that an edition knows
+abbrev pub KnownBits : (edition word : ℕ) → Type 0
+KnownBits edition word = (bit : ℕ) → bit < wordBits → bitSet word bit ≡ knows ourRules edition bit
+
+-- bits 29 and 31 carry no field
+abbrev pub bare : ℕ → Bool
+bare bit = eqb bit 29 || eqb bit 31
+
+-- whether a bit of a word carries a field, known or not
+abbrev pub carriesField : (word bit : ℕ) → Bool
+carriesField word bit = bitSet word bit && not (bare bit)
+
+-- what is left of a word from a bit on: its bits that carry a field
+pub record LeftFrom (word from left : ℕ) : Type 0 where
+  pub small : left < 2 ^ wordBits
+  pub before : (bit : ℕ) → bit < from → bitSet left bit ≡ false
+  pub behind : (bit : ℕ) → from ≤ bit → bit < wordBits → bitSet left bit ≡ carriesField word bit
+
+-- the first bit of a word that carries a field which is none of the known; past the word's bits where there is none
+pub record StopsAt (word known stop : ℕ) : Type 0 where
+  pub below : (bit : ℕ) → bit < stop → bit < wordBits → carriesField word bit ≡ true → bitSet known bit ≡ true
+  pub carries : stop < wordBits → carriesField word stop ≡ true
+  pub unknown : stop < wordBits → bitSet known stop ≡ false
+  pub high : stop ≤ wordBits

@@ -1,14 +1,14 @@
 // Radiotap's table of fields in code, and what readers and writers ask of it in an edition: the next set bit of a
 // presence word, and where the field of a bit lies.
 ghost use mathlib.Core.Path.{_≡_};
-ghost use mathlib.Core.Bool.{true};
-ghost use Prim.Native.Nat.{_+_, _-_, _*_, _/_};
-ghost use Rattle.radiotap_rules.specs.Rules.{alignmentOk, editionTaken, served as isServed};
-ghost use Rattle.radiotap_rules.specs.Reading.{aligned as alignedTo};
+ghost use mathlib.Core.Bool.{cond, _&&_};
+ghost use lib.Dec.{leb};
+ghost use Rattle.radiotap_rules.specs.Rules.{editionTaken, served as isServed};
 ghost use Rattle.radiotap_rules.specs.Table.{ourRules};
 ghost use Rattle.radiotap_rules.specs.Answers.{layOf};
-ghost use Rattle.radiotap_table.specs.Says.{laySays};
-ghost use Rattle.radiotap_table.specs.Bits.{NextSet};
+ghost use Rattle.radiotap_table.specs.Says.{laySays, PlacedAs, RowPlaced, AlignedAs};
+ghost use Rattle.radiotap_table.specs.Bits.{NextSet, KnownBits, LeftFrom, StopsAt};
+ghost use Rattle.radiotap_table.specs.Rows.{numbersIn};
 
 // A row for each presence bit: alignment, size, first edition that knows it (0: none). Alignment counts from the
 // header's start, so that a field keeps its place whatever stands before the header.
@@ -63,6 +63,12 @@ pub enum Layout {
     Lies { start: usize, size: u8 },
 }
 
+// Where a field starts, and its size.
+pub struct Place {
+    pub start: usize,
+    pub size: u8,
+}
+
 // Whether an edition is served.
 pub fn served(edition: u32) -> bool
     ensures { λ r. ⌜ r ≡ isServed ourRules edition ⌝ }
@@ -106,14 +112,59 @@ pub fn next_set(word: u32, from: u32) -> u32
     from + u32::trailing_zeros(rest)
 }
 
+// The bits that an edition knows, as a presence word. The loop over constant rows becomes a few instructions.
+pub fn known(edition: u32) -> u32
+    ensures { λ r. ⌜ KnownBits edition r ⌝ }
+{
+    let rows = ROWS;
+    let mut bits: u32 = 0;
+    let mut bit: usize = 32;
+    while 0 < bit {
+        bit -= 1;
+        bits = 2 * bits + knows(rows[bit][2], edition);
+    }
+    bits
+}
+
+// The bits of a presence word that carry a field: all but 29 and 31.
+pub const FIELD_BITS: u32 = 0x5fff_ffff;
+
+// What a presence word carries: its bits that carry a field, and the first of them that stops a walk, 32 where none does.
+pub struct Carried {
+    pub left: u32,
+    pub stop: u32,
+}
+
+// What a presence word carries in an edition that knows these bits.
+pub fn carries(word: u32, known: u32) -> Carried
+    ensures { λ r. ⌜ LeftFrom word 0 (r .left) ⌝ }
+    ensures { λ r. ⌜ StopsAt word known (r .stop) ⌝ }
+{
+    let left = word & FIELD_BITS;
+    Carried {
+        left,
+        stop: u32::trailing_zeros(left ^ (left & known)),
+    }
+}
+
+// 1 where an edition knows a field by its first edition, else 0.
+fn knows(first: u8, edition: u32) -> u32
+    ensures { λ r. ⌜ r ≡ cond (leb 1 first && leb first edition) 1 0 ⌝ }
+{
+    if first == 0 {
+        return 0;
+    }
+    if first as u32 > edition {
+        return 0;
+    }
+    1
+}
+
 // Where the field of a bit lies in an edition, from the first free place on.
 pub fn lay(edition: u32, bit: usize, at: u32) -> Layout
     ensures { λ r. ⌜ laySays r ≡ layOf ourRules edition bit at ⌝ }
 {
-    if bit >= 32 {
-        return Layout::Unknown;
-    }
-    let row = ROWS[bit];
+    let row = row_of(bit);
     if row[2] == 0 {
         return Layout::Unknown;
     }
@@ -126,12 +177,64 @@ pub fn lay(edition: u32, bit: usize, at: u32) -> Layout
     }
 }
 
+// Where the field of a bit lies from the first free place on, in an edition that knows it.
+pub fn lies_at(bit: usize, at: u32) -> Place
+    ensures { λ r. ⌜ PlacedAs bit at r ⌝ }
+    ensures { λ r. ⌜ RowPlaced bit at r ⌝ }
+{
+    let row = row_of(bit);
+    let start = aligned(row[0], at);
+    let size = row[1];
+    Place { start, size }
+}
+
 // The next multiple of an alignment: a power of two, so that a mask gives the remainder.
 fn aligned(alignment: u8, at: u32) -> usize
-    requires { ⌜ alignmentOk alignment ≡ true ⌝ }
-    ensures { λ r. ⌜ r ≡ alignedTo alignment at ⌝ }
+    ensures { λ r. ⌜ AlignedAs alignment at r ⌝ }
 {
-    let mask = alignment as usize - 1;
+    let mask = (alignment as usize + 255) % 256;
     let past = at as usize + mask;
     past - (past & mask)
+}
+
+// The row of a bit. Constant arms become a table in read-only memory, where `ROWS[bit]` would build the array at each call.
+fn row_of(bit: usize) -> [u8; 3]
+    ensures { λ r. ⌜ r ≡ numbersIn ourRules bit ⌝ }
+{
+    let rows = ROWS;
+    match bit {
+        0 => rows[0],
+        1 => rows[1],
+        2 => rows[2],
+        3 => rows[3],
+        4 => rows[4],
+        5 => rows[5],
+        6 => rows[6],
+        7 => rows[7],
+        8 => rows[8],
+        9 => rows[9],
+        10 => rows[10],
+        11 => rows[11],
+        12 => rows[12],
+        13 => rows[13],
+        14 => rows[14],
+        15 => rows[15],
+        16 => rows[16],
+        17 => rows[17],
+        18 => rows[18],
+        19 => rows[19],
+        20 => rows[20],
+        21 => rows[21],
+        22 => rows[22],
+        23 => rows[23],
+        24 => rows[24],
+        25 => rows[25],
+        26 => rows[26],
+        27 => rows[27],
+        28 => rows[28],
+        29 => rows[29],
+        30 => rows[30],
+        31 => rows[31],
+        _ => [0, 0, 0],
+    }
 }

@@ -1,14 +1,16 @@
 -- `radiotap_table::aligned` meets its contract: an alignment is a power of two, and the mask of a power of two is the remainder.
 -- Assumes nothing.
+use Prim.Native.Nat.{_+_, _-_, _%_}
+use mathlib.Core.Path.{_≡_}
 use borrow.Author.Needs.{needs}
 use native.Mathlib.Omega.{arith}
 use lib.Bits.{and-le-l}
-use Rattle.radiotap_table.proofs.RoundLaws.{alignment-above, alignment-masked}
+use Rattle.radiotap_table.proofs.RoundLaws.{alignment-above, alignment-most, alignment-masked, masked-256}
 use Rattle.radiotap_table.proofs.aligned.Statement.{statement}
 use Rattle.radiotap_table.proofs.aligned.Tie as tie
 
-sub-mask : tie.Need-sub-mask
-sub-mask c = omega (arith, alignment-above (c .args .alignment) (c .pre))
+add-mask : tie.Need-add-mask
+add-mask c = search needs
 
 add-past : tie.Need-add-past
 add-past c = search needs
@@ -17,7 +19,15 @@ sub-result : tie.Need-sub-result
 sub-result c = and-le-l _ _
 
 returns : tie.Need-returns
-returns c = alignment-masked (c .args .alignment) (c .args .at) (c .pre)
+returns c =
+    let a = c .args .alignment in (
+      λ ok.
+          let mask : (a + 255) % 256 ≡ a - 1 = omega (arith, alignment-above a ok, alignment-most a ok) in
+          rw mask (alignment-masked a (c .args .at) ok),
+      λ none.
+          let mask : (a + 255) % 256 ≡ 255 = omega arith in
+          rw mask (masked-256 (c .args .at)),
+    )
 
 pub aligned-spec : {M : Type 1} → statement M
-aligned-spec = tie.close (tie.spec sub-mask add-past sub-result returns)
+aligned-spec = tie.close (tie.spec add-mask add-past sub-result returns)
