@@ -1,7 +1,6 @@
-//! Links the static library from the repository's target directory, and keeps the compiler's version for the report.
+//! Keeps the compiler's version for the report.
 
 use std::env;
-use std::path::Path;
 use std::process::Command;
 
 /// What the compiler says of itself.
@@ -13,11 +12,6 @@ fn rustc_version() -> String {
 }
 
 fn main() {
-    let manifest = env::var("CARGO_MANIFEST_DIR").expect("set by cargo");
-    let directory = Path::new(&manifest).join("../target/staticlib");
-    let archive = directory.join("libzalghimo.a");
-    println!("cargo:rerun-if-changed={}", archive.display());
-    println!("cargo:rustc-link-search=native={}", directory.display());
-    println!("cargo:rustc-link-lib=static=zalghimo");
+    println!("cargo:rerun-if-changed=build.rs");
     println!("cargo:rustc-env=RUSTC_VERSION={}", rustc_version());
 }

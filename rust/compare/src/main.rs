@@ -2,7 +2,6 @@
 //! Usage: compare [--progress] [COUNT] [SEED]
 
 mod btsnoop;
-mod c_struct;
 mod le;
 mod lent;
 mod places;

@@ -1,7 +1,9 @@
 //! A BTSnoop file, record by record.
 
-use crate::{ffi, record_at, Record, Refusal, FIRST_RECORD};
+use crate::answer::accepted;
+use crate::{record_at, Record, Refusal, FIRST_RECORD};
 use std::iter::FusedIterator;
+use zalghimo_sys::btsnoop;
 
 /// A BTSnoop file whose header is accepted. The records are judged as they are read.
 #[derive(Clone, Copy, Debug, PartialEq, Eq)]
@@ -18,8 +20,8 @@ impl<'a> Capture<'a> {
     /// assert_eq!((refusal.number(), refusal.place()), (1, 8));
     /// ```
     pub fn new(octets: &'a [u8]) -> Result<Capture<'a>, Refusal> {
-        let answer = ffi::btsnoop::header(octets);
-        answer.head.accepted()?;
+        let answer = btsnoop::header(octets);
+        accepted(answer.head())?;
         Ok(Capture {
             octets,
             datalink: answer.datalink as u32,

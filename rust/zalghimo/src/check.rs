@@ -1,8 +1,10 @@
 //! Whole captures: the check of a file, the survey by instalments, the earlier of two.
 
-use crate::{ffi, Refusal};
+use crate::answer::{accepted, refusal};
+use crate::Refusal;
 use std::error::Error;
 use std::fmt;
+use zalghimo_sys::{btsnoop, END};
 
 /// What an accepted file has.
 #[derive(Clone, Copy, Debug, PartialEq, Eq, Hash)]
@@ -21,8 +23,8 @@ pub struct Checked {
 /// # Ok::<(), zalghimo::Refusal>(())
 /// ```
 pub fn check(octets: &[u8]) -> Result<Checked, Refusal> {
-    let answer = ffi::btsnoop::check(octets);
-    answer.head.accepted()?;
+    let answer = btsnoop::check(octets);
+    accepted(answer.head())?;
     Ok(Checked {
         datalink: answer.datalink as u32,
         records: answer.records as usize,
@@ -60,14 +62,14 @@ pub struct SurveyRefusal {
 /// # Ok::<(), zalghimo::SurveyRefusal>(())
 /// ```
 pub fn survey(octets: &[u8], place: usize, number: usize) -> Result<Survey, SurveyRefusal> {
-    let answer = ffi::btsnoop::survey(octets, place, number);
+    let answer = btsnoop::survey(octets, place, number);
     let count = answer.count as usize;
-    match answer.head.refusal() {
+    match refusal(answer.head()) {
         Some(refusal) => Err(SurveyRefusal { refusal, count }),
         None => Ok(Survey {
             count,
             reached: answer.reached as usize,
-            at_end: answer.head.kind == ffi::END,
+            at_end: answer.kind == END,
         }),
     }
 }
@@ -109,15 +111,15 @@ pub fn earlier<'a>(
     second: &'a [u8],
     second_place: usize,
 ) -> Result<Option<Earlier<'a>>, EarlierRefusal> {
-    let answer = ffi::btsnoop::earlier(first, first_place, second, second_place);
+    let answer = btsnoop::earlier(first, first_place, second, second_place);
     let (capture, octets) = match answer.capture {
         1 => (Which::First, first),
         _ => (Which::Second, second),
     };
-    if let Some(refusal) = answer.head.refusal() {
+    if let Some(refusal) = refusal(answer.head()) {
         return Err(EarlierRefusal { refusal, capture });
     }
-    if answer.head.kind == ffi::END {
+    if answer.kind == END {
         return Ok(None);
     }
     let packet = &octets[answer.packet as usize..][..answer.length as usize];

@@ -16,7 +16,8 @@ mod kinds;
 
 pub use kinds::{Dependent, PduType, Phy};
 
-use crate::{ffi, write, Refusal};
+use crate::answer::{accepted, place_after};
+use crate::{write, Refusal};
 
 /// Octets of the pseudo-header.
 const HEADER: usize = 10;
@@ -101,8 +102,8 @@ pub struct Packet<'a> {
 impl<'a> Packet<'a> {
     /// Reads a pseudo-header and the packet behind it. Refusals: 1, 8, 7.
     pub fn read(octets: &'a [u8]) -> Result<Packet<'a>, Refusal> {
-        let answer = ffi::le::read(octets);
-        answer.head.accepted()?;
+        let answer = zalghimo_sys::le::read(octets);
+        accepted(answer.head())?;
         let pdu_type = PduType::ALL[answer.pdu_type as usize];
         Ok(Packet {
             values: Values {
@@ -190,7 +191,17 @@ pub fn write(
     values: &Values,
     packet: &[u8],
 ) -> Result<usize, Refusal> {
-    ffi::le::write(output, place, values, packet)
+    place_after(zalghimo_sys::le::write(
+        output,
+        place,
+        values.rf_channel,
+        values.signal,
+        values.noise,
+        values.offences,
+        values.reference_address,
+        values.flags,
+        packet,
+    ))
 }
 
 /// As [`write`](write()), at the end of the octets. Refusals: 8, 7; the octets are then as before.

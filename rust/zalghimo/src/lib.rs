@@ -1,7 +1,8 @@
 //! Reads and writes wireless captures: BTSnoop files, LE packets behind their pseudo-header, frames behind radiotap.
 //!
 //! A safe layer over `libzalghimo.a`, whose every answer is proved. Any octets get an answer: a value, or a [`Refusal`]
-//! with a number, a place and a reason in words. Readers lend parts of the input and copy nothing.
+//! with a number, a place and a reason in words. Readers lend parts of the input and copy nothing. There is no unsafe
+//! code here: the library is called by `zalghimo-sys`.
 //!
 //! - [`Capture`] reads a BTSnoop file record by record; [`check()`] judges a whole file, [`survey`] passes records by
 //!   instalments, [`earlier`] compares two captures; [`Tally`] keeps count, [`drops_between`] tells losses.
@@ -36,12 +37,11 @@
 //! ```
 
 #![deny(missing_docs)]
-#![deny(unsafe_code)]
+#![forbid(unsafe_code)]
 
+mod answer;
 mod capture;
 mod check;
-#[allow(unsafe_code)]
-mod ffi;
 pub mod le;
 pub mod radiotap;
 mod record;

@@ -21,10 +21,9 @@
 //! # Ok::<(), zalghimo::Refusal>(())
 //! ```
 
-use crate::{ffi, write, Refusal};
-
-/// The most fields of a header: 29 bits in each of 8 words.
-const MOST_FIELDS: usize = 29 * 8;
+use crate::answer::{accepted, place_after};
+use crate::{write, Refusal};
+use zalghimo_sys::{RADIOTAP_MOST_FIELDS, STOPPED};
 
 /// Numbers that the library gives for a field: word, bit, start, size.
 const NUMBERS: usize = 4;
@@ -72,15 +71,15 @@ pub enum Ending {
 impl<'a> Header<'a> {
     /// Reads a header in an edition. Refusals: 15, 1, 3, 9, 11, 10, 12; a header refused shows no field.
     pub fn read(octets: &'a [u8], edition: u32) -> Result<Header<'a>, Refusal> {
-        let mut numbers = [0; NUMBERS * MOST_FIELDS];
-        let answer = ffi::radiotap::fields(octets, edition, &mut numbers);
-        answer.head.accepted()?;
+        let mut numbers = [0; NUMBERS * RADIOTAP_MOST_FIELDS];
+        let answer = zalghimo_sys::radiotap::fields(octets, edition, &mut numbers);
+        accepted(answer.head())?;
         let shown = numbers.chunks_exact(NUMBERS).take(answer.fields as usize);
         Ok(Header {
             octets,
             fields: shown.map(|field| Field::of(octets, field)).collect(),
-            ending: match answer.head.kind {
-                ffi::STOPPED => Ending::Stop {
+            ending: match answer.kind {
+                STOPPED => Ending::Stop {
                     word: answer.word as u32,
                     bit: answer.bit as u32,
                 },
@@ -119,7 +118,7 @@ impl<'a> Header<'a> {
 
     /// The presence words.
     pub fn words(&self) -> impl ExactSizeIterator<Item = u32> + '_ {
-        (0..self.words).map(|number| ffi::radiotap::word(self.octets, number).value as u32)
+        (0..self.words).map(|number| zalghimo_sys::radiotap::word(self.octets, number).value as u32)
     }
 }
 
@@ -218,7 +217,8 @@ pub fn write(
     presence: u32,
     values: &[u8],
 ) -> Result<usize, Refusal> {
-    ffi::radiotap::write(output, place, edition, presence, values)
+    let written = zalghimo_sys::radiotap::write(output, place, edition, presence, values);
+    place_after(written)
 }
 
 /// As [`write`](write()), at the end of the octets. Refusals: 15, 18, 19; the octets are then as before.

@@ -1,6 +1,8 @@
 //! One BTSnoop record.
 
-use crate::{ffi, Refusal, Time};
+use crate::answer::accepted;
+use crate::{Refusal, Time};
+use zalghimo_sys::{btsnoop, END};
 
 /// The numbers of a record that its packet does not tell.
 #[derive(Clone, Copy, Debug, Default, PartialEq, Eq, Hash)]
@@ -90,9 +92,9 @@ impl<'a> Record<'a> {
 ///
 /// Refusals: 17, 5, 6, 7.
 pub fn record_at(octets: &[u8], place: usize) -> Result<Option<Record<'_>>, Refusal> {
-    let answer = ffi::btsnoop::record(octets, place);
-    answer.head.accepted()?;
-    if answer.head.kind == ffi::END {
+    let answer = btsnoop::record(octets, place);
+    accepted(answer.head())?;
+    if answer.kind == END {
         return Ok(None);
     }
     Ok(Some(Record {
@@ -114,5 +116,5 @@ pub fn record_at(octets: &[u8], place: usize) -> Result<Option<Record<'_>>, Refu
 /// assert_eq!(zalghimo::drops_between(4_294_967_290, 5), 11);
 /// ```
 pub fn drops_between(earlier: u32, later: u32) -> u32 {
-    ffi::btsnoop::drops(earlier, later)
+    btsnoop::drops(earlier, later)
 }

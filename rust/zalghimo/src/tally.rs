@@ -1,6 +1,8 @@
 //! The running tally of a capture's records.
 
-use crate::{ffi, Record, Refusal};
+use crate::answer::accepted;
+use crate::{Record, Refusal};
+use zalghimo_sys::btsnoop;
 
 /// A running tally, updated record by record. A new one is empty.
 ///
@@ -34,7 +36,14 @@ impl Tally {
 
     /// Adds a record. Refusal: 16, where a sum would pass 2^64 − 1; the tally is then as before.
     pub fn add(&mut self, record: &Record) -> Result<(), Refusal> {
-        ffi::btsnoop::tally(&mut self.numbers, record.fields(), record.included_length()).accepted()
+        let answer = btsnoop::tally(
+            &mut self.numbers,
+            record.original_length(),
+            record.included_length(),
+            record.flags(),
+            record.cumulative_drops(),
+        );
+        accepted(answer.head())
     }
 
     /// Records, received, commands, octets included, lost, last drop number.

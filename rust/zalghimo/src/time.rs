@@ -1,7 +1,9 @@
 //! The time of a record.
 
-use crate::{ffi, Refusal};
+use crate::answer::accepted;
+use crate::Refusal;
 use std::time::{Duration, SystemTime, UNIX_EPOCH};
+use zalghimo_sys::btsnoop;
 
 /// Unix time: seconds, rounded down, and microseconds.
 #[derive(Clone, Copy, Debug, Default, PartialEq, Eq, PartialOrd, Ord, Hash)]
@@ -15,8 +17,8 @@ pub struct Time {
 impl Time {
     /// Converts a record's time field. Refusal: 14, where the time is before −2^63 microseconds.
     pub fn from_field(field: i64) -> Result<Time, Refusal> {
-        let answer = ffi::btsnoop::read_time(field);
-        answer.head.accepted()?;
+        let answer = btsnoop::read_time(field);
+        accepted(answer.head())?;
         Ok(Time {
             seconds: answer.seconds,
             microseconds: answer.microseconds as u32,
@@ -31,8 +33,8 @@ impl Time {
     /// # Ok::<(), zalghimo::Refusal>(())
     /// ```
     pub fn to_field(self) -> Result<i64, Refusal> {
-        let answer = ffi::btsnoop::write_time(self.seconds, self.microseconds);
-        answer.head.accepted()?;
+        let answer = btsnoop::write_time(self.seconds, self.microseconds);
+        accepted(answer.head())?;
         Ok(answer.field)
     }
 

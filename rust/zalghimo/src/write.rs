@@ -1,6 +1,8 @@
 //! Writing a BTSnoop file.
 
-use crate::{ffi, RecordFields, Refusal};
+use crate::answer::place_after;
+use crate::{RecordFields, Refusal};
+use zalghimo_sys::btsnoop;
 
 /// Octets of a file header.
 const HEADER: usize = 16;
@@ -12,7 +14,7 @@ const RECORD: usize = 24;
 ///
 /// A refusal changes nothing, and an accepted write only the octets written.
 pub fn write_header(output: &mut [u8], place: usize, datalink: u32) -> Result<usize, Refusal> {
-    ffi::btsnoop::write_header(output, place, datalink)
+    place_after(btsnoop::write_header(output, place, datalink))
 }
 
 /// Writes a record into an output at a place and answers the place after it. Refusals: 6, 13.
@@ -35,7 +37,15 @@ pub fn write_record(
     fields: &RecordFields,
     packet: &[u8],
 ) -> Result<usize, Refusal> {
-    ffi::btsnoop::write_record(output, place, fields, packet)
+    place_after(btsnoop::write_record(
+        output,
+        place,
+        fields.original_length,
+        fields.flags,
+        fields.cumulative_drops,
+        fields.time_field,
+        packet,
+    ))
 }
 
 /// Writes a file header at the end of the octets. Refusal: 4; the octets are then as before.
