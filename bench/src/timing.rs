@@ -13,11 +13,11 @@ pub const SHORTEST: Duration = Duration::from_millis(5);
 /// A work done so many times.
 pub type Work<'a> = Box<dyn FnMut(u64) + 'a>;
 
-/// A work that reads.
+/// A work that reads. Its answer is used where the call put it: to move it would be timed too.
 pub fn reading<'a, T>(mut once: impl FnMut() -> T + 'a) -> Work<'a> {
     Box::new(move |repeats| {
         for _ in 0..repeats {
-            black_box(once());
+            black_box(&once());
         }
     })
 }
@@ -30,7 +30,7 @@ pub fn writing<'a, N, T>(
     Box::new(move |repeats| {
         let mut buffer = buffer.borrow_mut();
         for _ in 0..repeats {
-            black_box(once(black_box(&mut buffer)));
+            black_box(&once(black_box(&mut buffer)));
         }
     })
 }

@@ -29,7 +29,7 @@ const MIXED: usize = 1000;
 fn read_each<'a, T>(headers: &'a [Vec<u8>], read: impl Fn(&[u8], u32) -> T + 'a) -> Work<'a> {
     reading(move || {
         for header in headers {
-            black_box(read(black_box(header), EDITION));
+            black_box(&read(black_box(header), EDITION));
         }
     })
 }
@@ -42,7 +42,7 @@ fn list_each<'a, T>(
 ) -> Work<'a> {
     writing(list, move |list| {
         for header in headers {
-            black_box(read(black_box(header), EDITION, black_box(list)));
+            black_box(&read(black_box(header), EDITION, black_box(list)));
         }
     })
 }
@@ -55,17 +55,17 @@ fn headers(words: Option<usize>, headers: &[Vec<u8>]) -> [Row; 2] {
     let read = [
         read_each(headers, library::radiotap_read),
         read_each(headers, |header, edition| {
-            black_box(radiotap::read(header, edition)).is_ok()
+            black_box(&radiotap::read(header, edition)).is_ok()
         }),
         read_each(headers, |header, edition| {
-            black_box(bit_by_bit::read(header, edition)).is_ok()
+            black_box(&bit_by_bit::read(header, edition)).is_ok()
         }),
     ];
     let list = RefCell::new(vec![0; NUMBERS]);
     let listing = [
         list_each(headers, &list, library::radiotap_fields),
         list_each(headers, &list, |header, edition, list| {
-            black_box(radiotap::fields(header, edition, list)).is_ok()
+            black_box(&radiotap::fields(header, edition, list)).is_ok()
         }),
     ];
     let [ours, plain, bits] = best(count, read);

@@ -19,12 +19,12 @@ pub fn all() -> Vec<Row> {
     packets.iter().for_each(|packet| agree::le::input(packet));
     let ours = || {
         for packet in &packets {
-            black_box(library::le_read(black_box(packet)));
+            black_box(&library::le_read(black_box(packet)));
         }
     };
     let plain = || {
         for packet in &packets {
-            let _ = black_box(le::read(black_box(packet)));
+            let _ = black_box(&le::read(black_box(packet)));
         }
     };
     let costs = best(PACKETS, [reading(ours), reading(plain)]);

@@ -13,7 +13,8 @@ pub fn page(tables: &str) -> String {
 The library beside plain Rust written for speed. Both give the same answers: this is checked on every input before it is
 timed, and on {} damaged inputs, refusals among them. Both are timed in one process, one run of each in turn, and the
 best of {RUNS} runs counts; a short work is repeated until a run lasts at least {} ms. A ratio is ours divided by the
-other. The library is called through its C boundary and is not inlined; plain Rust may be.
+other. The library is called through its C boundary and is not inlined; plain Rust may be. Answers of both are used where
+the call puts them.
 
 - *check*: a whole file. *survey*: a whole file by instalments of {INSTALMENT} records. *read*: record by record, all
   values used. *write*: a whole file from a list of records. Packets have 0 to 255 octets.

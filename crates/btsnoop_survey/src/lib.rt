@@ -90,21 +90,21 @@ fn judge(s: &[u8], place: usize) -> Step
             place,
         });
     }
-    let included = octets::be32(s, place + 4);
-    if octets::be32(s, place) < included {
+    // Both are widened where they are read: to do so behind the test would delay each step.
+    let included = octets::be32(s, place + 4) as usize;
+    if (octets::be32(s, place) as usize) < included {
         return Step::Refused(Refusal {
             number: refusals::INCLUDED_LENGTH,
             place: place + 4,
         });
     }
-    let size = included as usize;
-    if left - RECORD_LENGTH < size {
+    if left - RECORD_LENGTH < included {
         return Step::Refused(Refusal {
             number: refusals::PACKET,
             place,
         });
     }
-    Step::Next(place + RECORD_LENGTH + size)
+    Step::Next(place + RECORD_LENGTH + included)
 }
 
 // Checks a whole file: accepted exactly when its header is valid and whole records fill the rest.

@@ -1,7 +1,7 @@
 -- A reading by what stands before the fields and by what the walk behind it leaves, and what its parts are.
 -- Assumes nothing.
 use Prim.Native.Nat.{ℕ, zero, suc, _+_, _-_, _≤_, _<_}
-use mathlib.Core.Path.{_≡_, refl, sym, ap, ap₂, _∙_, subst}
+use mathlib.Core.Path.{_≡_, refl, sym, ap, ap₂, _∙_}
 use mathlib.Core.Bool.{Bool, true, false, cond, _&&_, _||_}
 use mathlib.Core.List.{List, [], _∷_}
 use native.Mathlib.Omega.{arith}
@@ -16,13 +16,13 @@ use Rattle.octets.specs.Parts.{part}
 use Rattle.radiotap_rules.specs.declared.Head.{Head}
 use Rattle.radiotap_rules.specs.Rules.{Rules, rowOf, editionTaken, served}
 use Rattle.radiotap_rules.specs.Table.{ourRules}
-use Rattle.radiotap_rules.specs.Reading.{headerLength, fixedLength, lengthIn, fixedHeader, presenceWords, editionAbove, Field, Ending, Walk, refusedAt, shown, Reading, refusedBefore, refusedAtField, read, readWalk, readWords, readFixed, reading, fieldsOf, FieldAnswer, refusedField, theField, noField, nth, fieldOf}
+use Rattle.radiotap_rules.specs.Reading.{headerLength, fixedLength, lengthIn, fixedHeader, presenceWords, editionAbove, Field, Ending, Walk, refusedAt, shown, Reading, refusedBefore, refusedAtField, read, readWalk, readWords, readFixed, reading, fieldsOf, theField, noField, nth, fieldOf}
 use Rattle.radiotap_rules.specs.Steps.{headOfWords, headOfFixed, headAt}
-use Rattle.radiotap_rules.specs.Answers.{wordsOfFixed, wordsIn, howMany, Summary, summary, frameIn, isDbm, Dbm, dbmValue, notDbm, dbmOf}
+use Rattle.radiotap_rules.specs.Answers.{wordsOfFixed, wordsIn, howMany, Summary, summary, frameIn, isDbm, dbmValue, notDbm, dbmOf}
 use Rattle.radiotap_rules.proofs.Steps.{Headed, headed}
 use Rattle.radiotap_rules.proofs.Places.{fields-inside}
 use Rattle.radiotap.specs.Says.{opening}
-use Rattle.radiotap.specs.Outcomes.{Outcome, refusedOutcome, shownOutcome, noneKept, keptFrom, outcomeFrom, outcome, summarised, numberedAs, valuedAs}
+use Rattle.radiotap.specs.Outcomes.{Outcome, noneKept, keptFrom, outcome, summarised, numberedAs, valuedAs}
 
 -- where what stands before the fields is refused, in the edition or before it, the reading is refused so
 module _ (edition : ℕ) (s : List ℕ) where

@@ -14,9 +14,8 @@ use Rattle.radiotap_rules.specs.Reading.{FieldAnswer as FieldOf}
 use Rattle.radiotap_rules.specs.Answers.{Summary, isDbm, Dbm, notDbm, dbmValue}
 use Rattle.radiotap.specs.declared.Kept.{Kept}
 use Rattle.radiotap.specs.declared.Walked.{Walked}
-use Rattle.radiotap.specs.declared.ReadAnswer.{ReadAnswer}
 use Rattle.radiotap.specs.declared.FieldAnswer.{FieldAnswer}
-use Rattle.radiotap.specs.Says.{readSays, fieldSays, FieldSized}
+use Rattle.radiotap.specs.Says.{fieldSays, FieldSized}
 
 -- a refusal; or how many fields, the ending, and the field of the number asked for
 pub data Outcome : Type 0 where
@@ -64,9 +63,6 @@ abbrev pub summarised : (pad : ℕ) → Head → Outcome → Answer Summary
 summarised pad head (refusedOutcome n q) = refused n q
 summarised pad head (shownOutcome fields e kept) =
     given (record { fields = fields; ending = e; frame = head .size; pad = pad; words = head .words })
-
-abbrev pub SummarisedAs : (pad : ℕ) → Head → Walked → ReadAnswer → Type 0
-SummarisedAs pad head walk r = (s : List ℕ) → readSays r ≡ summarised pad head (walkSays s walk)
 
 -- a field number, by what the walk that kept its field left
 abbrev pub numberedAs : ℕ → Outcome → FieldOf

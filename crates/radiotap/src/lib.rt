@@ -1,6 +1,7 @@
 // Reading a radiotap header in an edition: the header as a whole, its fields by number, their octets and values, and
 // the frame behind it. A header is judged whole first: one refused at a field shows none.
 ghost use mathlib.Core.Path.{_≡_};
+ghost use lib.ListN.{getD};
 ghost use Rattle.refusals.specs.Refusals.{given};
 ghost use Rattle.radiotap_rules.specs.Table.{ourRules};
 ghost use Rattle.radiotap_rules.specs.Reading.{presenceWords, readWords, reading, fieldOf};
@@ -8,10 +9,11 @@ ghost use Rattle.radiotap_rules.specs.Steps.{headAt};
 ghost use Rattle.radiotap_rules.specs.Answers.{summary, octetsOfField, frameIn, dbmOf};
 ghost use Rattle.radiotap_head.specs.Says.{headSays};
 ghost use Rattle.radiotap.specs.Says.{opening, readSays, fieldSays, FieldSized, dbmSays};
-ghost use Rattle.radiotap.specs.Outcomes.{outcome, walkSays, KeptInside, SummarisedAs, NumberedAs, keptField, valuedAs};
+ghost use Rattle.radiotap.specs.Outcomes.{outcome, summarised, walkSays, KeptInside, NumberedAs, keptField, valuedAs};
 use radiotap_head::HeadAnswer;
 use radiotap_rules::Head;
 use radiotap_step::FIELD_PAST;
+use radiotap_step::Step;
 use radiotap_table::EDITION_ABOVE;
 use refusals::Refusal;
 
@@ -66,11 +68,7 @@ pub fn read(s: &[u8], edition: u32) -> ReadAnswer
 {
     match opened(s, edition) {
         HeadAnswer::Refused(refusal) => ReadAnswer::Refused(refusal),
-        HeadAnswer::Given(head) => summarise(
-            octets::octet(s, 1, 0),
-            head,
-            walk(s, radiotap_table::reading(edition), head, 0),
-        ),
+        HeadAnswer::Given(head) => count(s, radiotap_table::reading(edition), head),
     }
 }
 
@@ -91,7 +89,7 @@ pub fn field(s: &[u8], edition: u32, number: usize) -> FieldAnswer
 }
 
 // What stands before the fields, asked in an edition.
-fn opened(s: &[u8], edition: u32) -> HeadAnswer
+pub fn opened(s: &[u8], edition: u32) -> HeadAnswer
     ensures { λ r. ⌜ headSays r ≡ opening edition (headAt (now (s .entry))) ⌝ }
 {
     if radiotap_table::served(edition) {
@@ -101,6 +99,59 @@ fn opened(s: &[u8], edition: u32) -> HeadAnswer
             number: EDITION_ABOVE,
             place: 0,
         })
+    }
+}
+
+// Counts the fields behind a head in an edition, and so judges the header whole: word by word, and in each word from one
+// bit that is shown to the next.
+fn count(s: &[u8], edition: u32, head: Head) -> ReadAnswer
+    requires { ⌜ headAt (now s) ≡ given head ⌝ }
+    ensures { λ r. ⌜ readSays r ≡ summarised (getD (now (s .entry)) 1 0) head (outcome 0 (readWords ourRules edition (now (s .entry)) (head .size) (presenceWords (now (s .entry)) (head .size)))) ⌝ }
+{
+    let known = radiotap_table::known(edition);
+    let pad = octets::octet(s, 1, 0);
+    let size = head.size as usize;
+    let words = head.words as u32;
+    let mut index: u32 = 0;
+    let mut word = head.first;
+    let mut last = 3 + 4 * words as usize;
+    let mut fields: usize = 0;
+    loop {
+        let carried = radiotap_table::carries(word, known);
+        let mut left = carried.shown;
+        while left != 0 {
+            let span = radiotap_table::span_of(u32::trailing_zeros(left) as usize);
+            let before = last | span.mask;
+            last = before + span.size as usize;
+            if size <= last {
+                return ReadAnswer::Refused(Refusal {
+                    number: FIELD_PAST,
+                    place: before + 1,
+                });
+            }
+            fields += 1;
+            left = left & (left - 1);
+        }
+        if carried.unknown != 0 {
+            return ReadAnswer::Stopped {
+                fields,
+                frame: size,
+                pad,
+                words: head.words,
+                word: index,
+                bit: u32::trailing_zeros(carried.unknown),
+            };
+        }
+        index += 1;
+        if index == words {
+            return ReadAnswer::Ended {
+                fields,
+                frame: size,
+                pad,
+                words: head.words,
+            };
+        }
+        word = octets::le32(s, 4 + 4 * index as usize);
     }
 }
 
@@ -128,21 +179,13 @@ enum Walked {
     },
 }
 
-// Walks over all fields behind a head in an edition, and keeps the field of a number: one pass, in which the bits of a
-// presence word are cleared one by one up to the one that stops the walk.
+// Walks over all fields behind a head in an edition, and keeps the field of a number: one pass.
 fn walk(s: &[u8], edition: u32, head: Head, number: usize) -> Walked
     requires { ⌜ headAt (now s) ≡ given head ⌝ }
     ensures { λ r. ⌜ walkSays (now (s .entry)) r ≡ outcome number (readWords ourRules edition (now (s .entry)) (head .size) (presenceWords (now (s .entry)) (head .size))) ⌝ }
     ensures { λ r. ⌜ KeptInside (now (s .entry)) r ⌝ }
 {
-    let known = radiotap_table::known(edition);
-    let size = head.size as usize;
-    let words = head.words as u32;
-    let first = radiotap_table::carries(head.first, known);
-    let mut index: u32 = 0;
-    let mut left = first.left;
-    let mut stop = first.stop;
-    let mut at = 4 + 4 * words;
+    let mut cursor = radiotap_head::start(head);
     let mut fields = 0;
     let mut kept = Kept {
         word: 0,
@@ -151,72 +194,40 @@ fn walk(s: &[u8], edition: u32, head: Head, number: usize) -> Walked
         size: 0,
     };
     loop {
-        let bit = u32::trailing_zeros(left);
-        if bit != stop {
-            let place = radiotap_table::lies_at(bit as usize, at);
-            let end = place.start + place.size as usize;
-            if size < end {
-                return Walked::Refused(Refusal {
-                    number: FIELD_PAST,
-                    place: place.start,
-                });
+        match radiotap_step::next(s, edition, cursor) {
+            Step::Refused(refusal) => {
+                return Walked::Refused(refusal);
             }
-            if fields == number {
-                kept = Kept {
-                    word: index,
-                    bit,
-                    start: place.start,
-                    size: place.size,
-                };
+            Step::End => {
+                return Walked::Ended { fields, kept };
             }
-            fields += 1;
-            at = end as u32;
-            left = left & (left - 1);
-        } else {
-            if stop < 32 {
+            Step::Stop { word, bit } => {
                 return Walked::Stopped {
                     fields,
                     kept,
-                    word: index,
-                    bit: stop,
+                    word,
+                    bit,
                 };
             }
-            index += 1;
-            if index == words {
-                return Walked::Ended { fields, kept };
+            Step::Field {
+                word,
+                bit,
+                start,
+                size,
+                next,
+            } => {
+                if fields == number {
+                    kept = Kept {
+                        word,
+                        bit,
+                        start,
+                        size,
+                    };
+                }
+                fields += 1;
+                cursor = next;
             }
-            let next = radiotap_table::carries(octets::le32(s, 4 + 4 * index as usize), known);
-            left = next.left;
-            stop = next.stop;
         }
-    }
-}
-
-// What a walk says of the header as a whole.
-fn summarise(pad: u8, head: Head, walk: Walked) -> ReadAnswer
-    ensures { λ r. ⌜ SummarisedAs pad head walk r ⌝ }
-{
-    match walk {
-        Walked::Refused(refusal) => ReadAnswer::Refused(refusal),
-        Walked::Ended { fields, kept: _ } => ReadAnswer::Ended {
-            fields,
-            frame: head.size as usize,
-            pad,
-            words: head.words,
-        },
-        Walked::Stopped {
-            fields,
-            kept: _,
-            word,
-            bit,
-        } => ReadAnswer::Stopped {
-            fields,
-            frame: head.size as usize,
-            pad,
-            words: head.words,
-            word,
-            bit,
-        },
     }
 }
 

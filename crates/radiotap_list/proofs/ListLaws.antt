@@ -1,11 +1,12 @@
 -- A list into which fields are put one after another: what it holds so far, and how each step carries it on or ends it.
 -- Assumes nothing.
-use Prim.Native.Nat.{ℕ, zero, suc, _+_, _-_, _*_, _≤_, _<_}
-use mathlib.Core.Path.{_≡_, refl, sym, ap, _∙_}
+use Prim.Native.Nat.{ℕ, zero, suc, _+_, _-_, _*_, _≤_, _<_, min}
+use mathlib.Core.Path.{_≡_, refl, sym, ap, _∙_, subst}
 use mathlib.Core.List.{List, [], _∷_, _++_, append-assoc, append-nil}
 use native.Mathlib.Omega.{arith}
-use lib.ListN.{length, set, length-append}
-use lib.Seq.{sets-eq}
+use native.Mathlib.Nat.{min-eq-left, min-eq-right}
+use lib.ListN.{length, set, take, length-append}
+use lib.Seq.{sets-eq, take-at}
 use Rattle.octets.specs.Parts.{part, splice}
 use Rattle.octets.proofs.PartLaws.{length-part, length-splice, splice-splice}
 use Rattle.radiotap_rules.specs.declared.Cursor.{Cursor}
@@ -65,6 +66,29 @@ module _ (rules : Rules) (edition : ℕ) (s : List ℕ) where
     pub rest : firstFields rules edition s count start ≡ done ++ firstFields rules edition s (count - i) c
     pub list : out ≡ splice out₀ 0 (listed done)
 
+  -- the list holds the first of all fields, so many of them
+  abbrev pub Filled : (count : ℕ) (start : Cursor) (out₀ out : List ℕ) (i : ℕ) → Type 0
+  Filled count start out₀ out i = out ≡ splice out₀ 0 (listed (take i (firstFields rules edition s count start)))
+
+  module _ (count : ℕ) (start : Cursor) {out₀ out : List ℕ} {c : Cursor} {i : ℕ} (f : SoFar count start out₀ out c i) where
+    first-done : take i (firstFields rules edition s count start) ≡ f .done
+    first-done = ap (take i) (f .rest) ∙ take-at (f .done) (firstFields rules edition s (count - i) c) i (f .many)
+
+    pub filled : Filled count start out₀ out i
+    filled = f .list ∙ ap (λ (fs : List Field). splice out₀ 0 (listed fs)) (sym first-done)
+
+    -- whatever list it was made from
+    pub rebased : (base : List ℕ) → Filled count start base out i → SoFar count start base out c i
+    rebased base same =
+        record {
+          done = f .done;
+          many = f .many;
+          few = f .few;
+          inside = f .inside;
+          rest = f .rest;
+          list = same ∙ ap (λ (fs : List Field). splice base 0 (listed fs)) first-done;
+        }
+
   module _ (count : ℕ) (start : Cursor) (out₀ : List ℕ) where
     -- at first none
     pub begins : start .size ≤ length s → SoFar count start out₀ out₀ start 0
@@ -100,11 +124,6 @@ module _ (rules : Rules) (edition : ℕ) (s : List ℕ) where
           → out ≡ splice out₀ 0 (listed (firstFields rules edition s count start))
       finishes e = complete (fields-over (count - i) c e)
 
-      pub fills : count ≤ i → out ≡ splice out₀ 0 (listed (firstFields rules edition s count start))
-      fills all =
-          let none : count - i ≡ 0 = omega arith in
-          complete (ap (λ (k : ℕ). firstFields rules edition s k c) none)
-
       -- a field that is met goes behind those before it
       pub passes : {c′ : Cursor} (word bit place n : ℕ) → i < count
           → stepOf rules edition s c ≡ met (record { word = word; bit = bit; place = place; octets = part s place n }) c′
@@ -137,3 +156,36 @@ module _ (rules : Rules) (edition : ℕ) (s : List ℕ) where
                 ∙ ap (λ (xs : List ℕ). splice out₀ 0 (listed (f .done) ++ xs)) four
                 ∙ ap (splice out₀ 0) (sym (listed-append (f .done) (g ∷ [])));
           }
+
+    -- with so many fields met, of which as many are put as there is room for
+    module _ {out : List ℕ} {c : Cursor} {fields : ℕ} (f : SoFar count start out₀ out c (min fields count)) where
+      -- while there is room, a field that is met is put
+      pub puts : fields < count → {c′ : Cursor} (word bit place n : ℕ)
+          → stepOf rules edition s c ≡ met (record { word = word; bit = bit; place = place; octets = part s place n }) c′
+          → c′ .at ≡ place + n → {out′ : List ℕ} → out′ ≡ splice out (4 * fields) (word ∷ bit ∷ place ∷ n ∷ [])
+          → SoFar count start out₀ out′ c′ (min (fields + 1) count)
+      puts more {c′} word bit place n step ends {out′} put =
+          let here : min fields count ≡ fields = min-eq-left (omega arith) in
+          let next : min (fields + 1) count ≡ fields + 1 = min-eq-left (omega arith) in
+          subst (SoFar count start out₀ out′ c′) (sym next)
+          (passes (subst (SoFar count start out₀ out c) here f) word bit place n more step ends put)
+
+      -- without room the list stays
+      pub skips : count ≤ fields → {c′ : Cursor} → c′ .size ≡ c .size → {out′ : List ℕ} → out′ ≡ out
+          → SoFar count start out₀ out′ c′ (min (fields + 1) count)
+      skips all {c′} same {out′} stays =
+          let full : min fields count ≡ count = min-eq-right all in
+          let next : min (fields + 1) count ≡ min fields count = min-eq-right (omega arith) ∙ sym full in
+          let none : count - min fields count ≡ 0 = omega (arith, full) in
+          subst (SoFar count start out₀ out′ c′) (sym next)
+          (record {
+            done = f .done;
+            many = f .many;
+            few = f .few;
+            inside = omega (arith, same, f .inside);
+            rest =
+                f .rest
+                ∙ ap (λ (k : ℕ). f .done ++ firstFields rules edition s k c) none
+                ∙ sym (ap (λ (k : ℕ). f .done ++ firstFields rules edition s k c′) none);
+            list = stays ∙ f .list;
+          })

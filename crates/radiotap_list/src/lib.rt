@@ -1,17 +1,22 @@
 // The fields of a radiotap header as a list of numbers, four a field: word, bit, start, size.
 ghost use mathlib.Core.Path.{_≡_};
 ghost use mathlib.Core.List.{[], _∷_};
-ghost use Prim.Native.Nat.{_+_, _*_, _≤_, _<_, min};
-ghost use lib.ListN.{length};
+ghost use Prim.Native.Nat.{_+_, _*_, _≤_};
+ghost use lib.ListN.{length, getD};
+ghost use Rattle.refusals.specs.Refusals.{given};
 ghost use Rattle.octets.specs.Parts.{splice};
 ghost use Rattle.radiotap_rules.specs.Table.{ourRules};
-ghost use Rattle.radiotap_rules.specs.Reading.{reading};
+ghost use Rattle.radiotap_rules.specs.Reading.{presenceWords, readWords, reading};
+ghost use Rattle.radiotap_rules.specs.Steps.{headAt, firstCursor};
 ghost use Rattle.radiotap_rules.specs.Answers.{summary, listed, listedInto};
-ghost use Rattle.radiotap.specs.Says.{readSays};
-ghost use Rattle.radiotap_list.specs.Listing.{outlineOf, cursorOf, firstFields};
+ghost use Rattle.radiotap.specs.Says.{opening, readSays};
+ghost use Rattle.radiotap.specs.Outcomes.{outcome, summarised};
+ghost use Rattle.radiotap_list.specs.Listing.{roomFor, firstFields};
 use radiotap::ReadAnswer;
-use radiotap_rules::Cursor;
-use radiotap_step::Step;
+use radiotap_head::HeadAnswer;
+use radiotap_rules::Head;
+use radiotap_step::FIELD_PAST;
+use refusals::Refusal;
 
 // Reads a header in an edition, and puts its fields into a lent list, as many whole fields as fit. The header is judged
 // whole first, so that one refused at a field leaves the list as it was.
@@ -19,113 +24,116 @@ pub fn fields(s: &[u8], edition: u32, out: &mut [u64]) -> ReadAnswer
     ensures { λ r. ⌜ readSays r ≡ summary (now (s .entry)) (reading ourRules edition (now (s .entry))) ⌝ }
     ensures { λ _. ⌜ now (out .exit) ≡ listedInto (now (out .entry)) (reading ourRules edition (now (s .entry))) ⌝ }
 {
-    let answer = radiotap::read(s, edition);
-    let outline = outline_of(answer);
-    let cursor = first(s, outline.size, outline.words);
-    let count = fewer(outline.fields, out.len() / 4);
+    match radiotap::opened(s, edition) {
+        HeadAnswer::Refused(refusal) => ReadAnswer::Refused(refusal),
+        HeadAnswer::Given(head) => twice(s, edition, head, out),
+    }
+}
+
+// Walks over the fields behind a head twice: with no room, which judges the header, and then with the room of the list.
+// One call in a loop is compiled into its place, where two would not be.
+fn twice(s: &[u8], edition: u32, head: Head, out: &mut [u64]) -> ReadAnswer
+    requires { ⌜ opening edition (headAt (now s)) ≡ given head ⌝ }
+    ensures { λ r. ⌜ readSays r ≡ summary (now (s .entry)) (reading ourRules edition (now (s .entry))) ⌝ }
+    ensures { λ _. ⌜ now (out .exit) ≡ listedInto (now (out .entry)) (reading ourRules edition (now (s .entry))) ⌝ }
+{
     let taken = radiotap_table::reading(edition);
-    list(s, taken, cursor, count, out);
-    answer
+    let most = out.len() / 4;
+    let mut room = 0;
+    let mut judged = false;
+    loop {
+        let answer = list(s, taken, head, room, out);
+        if judged {
+            return answer;
+        }
+        room = room_for(answer, most);
+        judged = true;
+    }
 }
 
-// What a list takes from a header: how many fields it shows, its length, and how many presence words it has.
-struct Outline {
-    fields: usize,
-    size: usize,
-    words: u8,
-}
-
-// The outline of a header by its answer. A refused header shows no field.
-fn outline_of(answer: ReadAnswer) -> Outline
-    ensures { λ r. ⌜ r ≡ outlineOf (readSays answer) ⌝ }
+// The room for a header's fields, in a list that has room for so many: none where the header is refused.
+fn room_for(answer: ReadAnswer, most: usize) -> usize
+    ensures { λ r. ⌜ r ≡ roomFor (readSays answer) most ⌝ }
 {
     match answer {
-        ReadAnswer::Refused(_) => Outline {
-            fields: 0,
-            size: 0,
-            words: 0,
-        },
+        ReadAnswer::Refused(_) => 0,
         ReadAnswer::Ended {
-            fields,
-            frame,
+            fields: _,
+            frame: _,
             pad: _,
-            words,
-        } => Outline {
-            fields,
-            size: frame,
-            words,
-        },
+            words: _,
+        } => most,
         ReadAnswer::Stopped {
-            fields,
-            frame,
+            fields: _,
+            frame: _,
             pad: _,
-            words,
+            words: _,
             word: _,
             bit: _,
-        } => Outline {
-            fields,
-            size: frame,
-            words,
-        },
+        } => most,
     }
 }
 
-// The cursor at the first position of a header of a length, behind so many presence words.
-fn first(s: &[u8], size: usize, words: u8) -> Cursor
-    requires { ⌜ size < 65536 ⌝ }
-    ensures { λ r. ⌜ r ≡ cursorOf (now (s .entry)) size words ⌝ }
+// Walks over the fields behind a head in an edition as `radiotap::read` does, and puts the first of them into a list, as
+// many as there is room for.
+fn list(s: &[u8], edition: u32, head: Head, room: usize, out: &mut [u64]) -> ReadAnswer
+    requires { ⌜ (headAt (now s) ≡ given head) × (4 * room ≤ length (now out)) ⌝ }
+    ensures { λ r. ⌜ readSays r ≡ summarised (getD (now (s .entry)) 1 0) head (outcome 0 (readWords ourRules edition (now (s .entry)) (head .size) (presenceWords (now (s .entry)) (head .size)))) ⌝ }
+    ensures { λ _. ⌜ now (out .exit) ≡ splice (now (out .entry)) 0 (listed (firstFields ourRules edition (now (s .entry)) room (firstCursor head))) ⌝ }
 {
-    Cursor {
-        size: size as u32,
-        words,
-        position: 0,
-        bits: octets::le32(s, 4),
-        at: 4 + 4 * words as u32,
-    }
-}
-
-// The smaller of two numbers.
-fn fewer(a: usize, b: usize) -> usize
-    ensures { λ r. ⌜ r ≡ min a b ⌝ }
-{
-    if a <= b { a } else { b }
-}
-
-// Puts the fields that so many steps from a cursor meet into a list with room for them.
-fn list(s: &[u8], edition: u32, from: Cursor, count: usize, out: &mut [u64])
-    requires { ⌜ (from .size ≤ length (now s)) × (4 * count ≤ length (now out)) ⌝ }
-    ensures { λ _. ⌜ now (out .exit) ≡ splice (now (out .entry)) 0 (listed (firstFields ourRules edition (now (s .entry)) count from)) ⌝ }
-{
-    let mut cursor = from;
-    let mut i = 0;
-    while i < count {
-        match radiotap_step::next(s, edition, cursor) {
-            Step::Refused(_) => {
-                return;
+    let known = radiotap_table::known(edition);
+    let pad = octets::octet(s, 1, 0);
+    let size = head.size as usize;
+    let words = head.words as u32;
+    let mut index: u32 = 0;
+    let mut word = head.first;
+    let mut last = 3 + 4 * words as usize;
+    let mut fields = 0;
+    loop {
+        let carried = radiotap_table::carries(word, known);
+        let mut left = carried.shown;
+        while left != 0 {
+            let bit = u32::trailing_zeros(left);
+            let span = radiotap_table::span_of(bit as usize);
+            let before = last | span.mask;
+            last = before + span.size as usize;
+            if size <= last {
+                return ReadAnswer::Refused(Refusal {
+                    number: FIELD_PAST,
+                    place: before + 1,
+                });
             }
-            Step::End => {
-                return;
+            if fields < room {
+                put(out, 4 * fields, index, bit, before + 1, span.size);
             }
-            Step::Stop { word: _, bit: _ } => {
-                return;
-            }
-            Step::Field {
-                word,
-                bit,
-                start,
-                size,
-                next,
-            } => {
-                put(out, 4 * i, word, bit, start, size as usize);
-                cursor = next;
-                i += 1;
-            }
+            fields += 1;
+            left = left & (left - 1);
         }
+        if carried.unknown != 0 {
+            return ReadAnswer::Stopped {
+                fields,
+                frame: size,
+                pad,
+                words: head.words,
+                word: index,
+                bit: u32::trailing_zeros(carried.unknown),
+            };
+        }
+        index += 1;
+        if index == words {
+            return ReadAnswer::Ended {
+                fields,
+                frame: size,
+                pad,
+                words: head.words,
+            };
+        }
+        word = octets::le32(s, 4 + 4 * index as usize);
     }
 }
 
 // Puts the four numbers of a field into a list from an index on.
-fn put(out: &mut [u64], at: usize, word: u32, bit: u32, start: usize, size: usize)
+fn put(out: &mut [u64], at: usize, word: u32, bit: u32, start: usize, size: u8)
     requires { ⌜ at + 4 ≤ length (now out) ⌝ }
     ensures { λ _. ⌜ now (out .exit) ≡ splice (now (out .entry)) at (word ∷ bit ∷ start ∷ size ∷ []) ⌝ }
 {

@@ -1,17 +1,17 @@
 -- The bits of two words taken together, a word less its lowest set bit, and what is left of a presence word.
 -- Assumes nothing.
 use Prim.Native.Nat.{ℕ, zero, suc, _+_, _-_, _*_, _/_, _%_, _^_, _≤_, _<_, min}
-use mathlib.Core.Path.{_≡_, refl, sym, ap, _∙_}
+use mathlib.Core.Path.{_≡_, refl, sym, ap, ap₂, _∙_}
 use mathlib.Core.Bool.{Bool, true, false, not, _&&_, and-eq-true-iff}
 use native.Mathlib.Omega.{arith}
-use native.Mathlib.Nat.{min-zero, zero-min, min-le-left}
+use native.Mathlib.Nat.{min-zero, zero-min, min-le-left, pow-suc, mul-assoc, zero-div}
 use native.Mathlib.Decide.{decLe}
 use lib.Dec.{eqb}
-use lib.Bits.{bitAnd, bitXor, differ, and-step, and-le-l, and-le-r, and-shr, and-self, xor-step, xor-shr}
-use lib.Count.{trailingZeros, under, trailing-le}
+use lib.Bits.{bitAnd, bitXor, differ, and-step, and-le-l, and-le-r, and-shr, and-self, xor-step, xor-shr, xor-lt}
+use lib.Count.{trailingZeros, under, trailing-le, trailing-of-zero}
 use Rattle.radiotap_rules.specs.Reading.{bitSet, wordBits}
-use Rattle.radiotap_table.specs.Bits.{bare, carriesField, LeftFrom, StopsAt}
-use Rattle.radiotap_table.proofs.SetLaws.{bit-shifted, bit-zero, trailing-clear, trailing-set}
+use Rattle.radiotap_table.specs.Bits.{bare, carriesField, LeftFrom, StopsAt, Carries}
+use Rattle.radiotap_table.proofs.SetLaws.{bit-shifted, bit-zero, trailing-clear, trailing-set, trailing-below}
 
 -- two digits of a number: both set, and the first set without the second
 and-digits : (x y : ℕ) → x < 2 → y < 2 → eqb (min x y) 1 ≡ (eqb x 1 && eqb y 1)
@@ -140,88 +140,213 @@ all-below test (suc n) e i h = go (decLe (suc i) n) (all-below test n (and-eq-tr
 carrying-bits : (bit : ℕ) → bit < wordBits → bitSet 1610612735 bit ≡ not (bare bit)
 carrying-bits bit h = agree-same _ _ (all-below (λ (b : ℕ). agree (bitSet 1610612735 b) (not (bare b))) wordBits refl bit h)
 
-module _ (word : ℕ) where
-  -- at first all bits are left that carry a field
-  pub left-first : LeftFrom word 0 (bitAnd word 1610612735)
-  left-first = record {
-    small = omega (arith, and-le-r word 1610612735);
-    before = λ bit h. absurd (omega arith);
-    behind = λ bit low high. and-bit word 1610612735 bit ∙ ap (λ (t : Bool). bitSet word bit && t) (carrying-bits bit high);
-  }
+-- the number below another, or below a power of two for 0, has all bits set below the lowest set one
+low-ones : (k n r m i : ℕ) → r + 1 ≡ n + m * 2 ^ k → i < trailingZeros k n → bitSet r i ≡ true
+unfolding trailingZeros
+low-ones zero n r m i e h = absurd (omega arith)
+low-ones (suc k) n r m i e h = go i (n % 2) refl h (low-ones k (n / 2) (r / 2) m)
+  where
+    twice : r + 1 ≡ n + m * 2 ^ k * 2
+    twice = e ∙ ap (λ (x : ℕ). n + x) (ap (λ (x : ℕ). m * x) (pow-suc 2 k) ∙ sym (mul-assoc m (2 ^ k) 2))
 
-  -- the first of them that is not known stops the walk
-  pub stops-first : {left : ℕ} → LeftFrom word 0 left → (known : ℕ) → StopsAt word known (trailingZeros wordBits (bitXor left (bitAnd left known)))
-  stops-first {left} l known =
-      let strange : ℕ = bitXor left (bitAnd left known) in
+    go : (i d : ℕ) → n % 2 ≡ d → i < under d (trailingZeros k (n / 2))
+        → ((j : ℕ) → r / 2 + 1 ≡ n / 2 + m * 2 ^ k → j < trailingZeros k (n / 2) → bitSet (r / 2) j ≡ true) → bitSet r i ≡ true
+    go zero zero e h rest = let odd : r % 2 ≡ 1 = omega (arith, twice) in bit-zero r ∙ ap (λ (x : ℕ). eqb x 1) odd
+    go (suc i) zero e h rest = bit-shifted r 1 (suc i) i (omega arith) ∙ rest i (omega (arith, twice)) (omega arith)
+    go i (suc d) e h rest = absurd (omega arith)
+
+-- and its bits above the lowest set one stay
+high-stays : (k n r i : ℕ) → r + 1 ≡ n → trailingZeros k n < k → trailingZeros k n < i → bitSet r i ≡ bitSet n i
+unfolding trailingZeros
+high-stays zero n r i e h l = absurd (omega arith)
+high-stays (suc k) n r zero e h l = absurd (omega arith)
+high-stays (suc k) n r (suc i) e h l = go (n % 2) refl h l (high-stays k (n / 2) (r / 2) i)
+  where
+    by-half : bitSet (r / 2) i ≡ bitSet (n / 2) i → bitSet r (suc i) ≡ bitSet n (suc i)
+    by-half same = bit-shifted r 1 (suc i) i (omega arith) ∙ same ∙ sym (bit-shifted n 1 (suc i) i (omega arith))
+
+    go : (d : ℕ) → n % 2 ≡ d → under d (trailingZeros k (n / 2)) < suc k → under d (trailingZeros k (n / 2)) < suc i
+        → (r / 2 + 1 ≡ n / 2 → trailingZeros k (n / 2) < k → trailingZeros k (n / 2) < i → bitSet (r / 2) i ≡ bitSet (n / 2) i)
+        → bitSet r (suc i) ≡ bitSet n (suc i)
+    go zero even h l rest = by-half (rest (omega arith) (omega arith) (omega arith))
+    go (suc d) odd h l rest = let same : r / 2 ≡ n / 2 = omega arith in by-half (ap (λ (x : ℕ). bitSet x i) same)
+
+-- a word with a lowest set bit is above 0
+set-above : (n : ℕ) → trailingZeros wordBits n < wordBits → 1 ≤ n
+set-above n h = go (decLe 1 n)
+  where
+    go : Dec (1 ≤ n) → 1 ≤ n
+    go (yes l) = l
+    go (no l) =
+        let none : n ≡ 0 = omega arith in
+        absurd (omega (arith, ap (trailingZeros wordBits) none, trailing-of-zero wordBits))
+
+-- two tests of a bit, and of it without another
+both-not : (t u : Bool) → (t && not u) ≡ false → t ≡ true → u ≡ true
+both-not true true e h = refl
+both-not true false e h = sym e
+both-not false u e h = let z : _≡_ {A = ℕ} 0 1 = cc in absurd (omega arith)
+
+first-set : (t u : Bool) → (t && not u) ≡ true → (t ≡ true) × (u ≡ false)
+first-set true true e = let z : _≡_ {A = ℕ} 0 1 = cc in absurd (omega arith)
+first-set true false e = (refl, refl)
+first-set false u e = let z : _≡_ {A = ℕ} 0 1 = cc in absurd (omega arith)
+
+module _ (word known : ℕ) where
+  -- the bits of a word that carry a field, those of them that are known, and the others
+  abbrev fields : ℕ
+  fields = bitAnd word 1610612735
+
+  abbrev unknown : ℕ
+  unknown = bitXor fields (bitAnd fields known)
+
+  abbrev stop : ℕ
+  stop = trailingZeros wordBits unknown
+
+  field-bit : (bit : ℕ) → bit < wordBits → bitSet fields bit ≡ carriesField word bit
+  field-bit bit h = and-bit word 1610612735 bit ∙ ap (λ (t : Bool). bitSet word bit && t) (carrying-bits bit h)
+
+  -- the first of the others stops a walk
+  stops-first : StopsAt word known stop
+  stops-first =
       record {
         below =
             λ bit h high carries.
-            both-not (bitSet left bit) (bitSet known bit)
-            (sym (without-bit left known bit) ∙ trailing-clear wordBits strange bit h)
-            (l .behind bit (omega arith) high ∙ carries);
-        carries =
-            λ h.
-            sym (l .behind (trailingZeros wordBits strange) (omega arith) h)
-            ∙ first-set (bitSet left (trailingZeros wordBits strange)) (bitSet known (trailingZeros wordBits strange)) (set left known h) .0;
-        unknown =
-            λ h. first-set (bitSet left (trailingZeros wordBits strange)) (bitSet known (trailingZeros wordBits strange)) (set left known h) .1;
-        high = trailing-le wordBits strange;
+            both-not (bitSet fields bit) (bitSet known bit)
+            (sym (without-bit fields known bit) ∙ trailing-clear wordBits unknown bit h)
+            (field-bit bit high ∙ carries);
+        carries = λ h. sym (field-bit stop h) ∙ set h .0;
+        unknown = λ h. set h .1;
+        high = trailing-le wordBits unknown;
       }
     where
-      both-not : (t u : Bool) → (t && not u) ≡ false → t ≡ true → u ≡ true
-      both-not true true e h = refl
-      both-not true false e h = sym e
-      both-not false u e h = let z : _≡_ {A = ℕ} 0 1 = cc in absurd (omega arith)
+      set : stop < wordBits → (bitSet fields stop ≡ true) × (bitSet known stop ≡ false)
+      set h = first-set (bitSet fields stop) (bitSet known stop) (sym (without-bit fields known stop) ∙ trailing-set wordBits unknown h)
 
-      first-set : (t u : Bool) → (t && not u) ≡ true → (t ≡ true) × (u ≡ false)
-      first-set true true e = let z : _≡_ {A = ℕ} 0 1 = cc in absurd (omega arith)
-      first-set true false e = (refl, refl)
-      first-set false u e = let z : _≡_ {A = ℕ} 0 1 = cc in absurd (omega arith)
+  unknown-small : unknown < 2 ^ wordBits
+  unknown-small =
+      xor-lt wordBits fields (bitAnd fields known) (omega (arith, and-le-r word 1610612735)) (omega (arith, and-le-r word 1610612735, and-le-l fields known))
 
-      set : (a b : ℕ) → trailingZeros wordBits (bitXor a (bitAnd a b)) < wordBits
-          → (bitSet a (trailingZeros wordBits (bitXor a (bitAnd a b))) && not (bitSet b (trailingZeros wordBits (bitXor a (bitAnd a b))))) ≡ true
-      set a b h = sym (without-bit a b (trailingZeros wordBits (bitXor a (bitAnd a b)))) ∙ trailing-set wordBits (bitXor a (bitAnd a b)) h
-
-  module _ {from left : ℕ} (l : LeftFrom word from left) where
-    -- the lowest bit left is not below those left, and carries a field
-    pub left-low : trailingZeros wordBits left < wordBits → from ≤ trailingZeros wordBits left
-    left-low h = go (decLe from (trailingZeros wordBits left))
+  module _ (r : ℕ) (fits : r < 2 ^ wordBits) (wraps : (r + 1) % 2 ^ wordBits ≡ unknown) where
+    below-ones : (bit : ℕ) → bit < stop → bitSet r bit ≡ true
+    below-ones bit = go (decLe 1 unknown)
       where
-        go : Dec (from ≤ trailingZeros wordBits left) → from ≤ trailingZeros wordBits left
-        go (yes low) = low
-        go (no high) =
-            let clear : bitSet left (trailingZeros wordBits left) ≡ false = l .before (trailingZeros wordBits left) (omega arith) in
-            let set : bitSet left (trailingZeros wordBits left) ≡ true = trailing-set wordBits left h in
+        go : Dec (1 ≤ unknown) → bit < stop → bitSet r bit ≡ true
+        go (yes h) = low-ones wordBits unknown r 0 bit (omega (arith, unknown-small))
+        go (no h) = low-ones wordBits unknown r 1 bit (omega (arith, unknown-small))
+
+    -- below the first of the others all bits that carry a field are known
+    shown-below : (bit : ℕ) → bit < stop → bit < wordBits → (t u : Bool) → bitSet fields bit ≡ t → bitSet known bit ≡ u → (t && u) ≡ t
+    shown-below bit inside high true true e k = refl
+    shown-below bit inside high true false e k =
+        let known-here : bitSet known bit ≡ true = stops-first .below bit inside high (sym (field-bit bit high) ∙ e) in
+        let z : _≡_ {A = ℕ} 0 1 = cc in
+        absurd (omega arith)
+    shown-below bit inside high false u e k = refl
+
+    -- behind it, a bit that is known is none of the others, and so is not taken
+    hidden-behind : (bit : ℕ) → stop ≤ bit → bit < wordBits → (t u v : Bool) → bitSet fields bit ≡ t → bitSet known bit ≡ u → bitSet r bit ≡ v
+        → (t && u && v) ≡ false
+    hidden-behind bit low high true true true e k taken =
+        let other : bitSet unknown bit ≡ false = without-bit fields known bit ∙ ap₂ (λ (t : Bool) (u : Bool). t && not u) e k in
+        let apart : stop ≡ bit → ⊥ = λ same. first-other bit high same other in
+        let above : 1 ≤ unknown = set-above unknown (omega arith) in
+        let stays : bitSet r bit ≡ bitSet unknown bit = high-stays wordBits unknown r bit (omega (arith, unknown-small)) (omega arith) (omega arith) in
+        let z : _≡_ {A = ℕ} 0 1 = cc in
+        absurd (omega arith)
+      where
+        first-other : (bit : ℕ) → bit < wordBits → stop ≡ bit → bitSet unknown bit ≡ false → ⊥
+        first-other bit high same clear =
+            let set : bitSet unknown stop ≡ true = trailing-set wordBits unknown (omega arith) in
+            let here : bitSet unknown stop ≡ false = ap (bitSet unknown) same ∙ clear in
             let z : _≡_ {A = ℕ} 0 1 = cc in
-            absurd (omega arith)
+            omega arith
+    hidden-behind bit low high true true false e k taken = refl
+    hidden-behind bit low high true false v e k taken = refl
+    hidden-behind bit low high false u v e k taken = refl
 
-    pub left-carries : trailingZeros wordBits left < wordBits → carriesField word (trailingZeros wordBits left) ≡ true
-    left-carries h = sym (l .behind (trailingZeros wordBits left) (left-low h) h) ∙ trailing-set wordBits left h
+    -- so what the word carries is shown below it, and it stops a walk
+    pub carries-all : Carries word known (bitAnd (bitAnd fields known) r) unknown
+    carries-all =
+        record {
+          small = unknown-small;
+          strange = λ bit high. without-bit fields known bit ∙ ap (λ (t : Bool). t && not (bitSet known bit)) (field-bit bit high);
+          stops = stops-first;
+          left = record {
+            small = omega (arith, and-le-r (bitAnd fields known) r);
+            before = λ bit h. absurd (omega arith);
+            behind = λ bit low inside high.
+                taken bit
+                ∙ ap (λ (t : Bool). (bitSet fields bit && bitSet known bit) && t) (below-ones bit inside)
+                ∙ and-true (bitSet fields bit && bitSet known bit)
+                ∙ shown-below bit inside high (bitSet fields bit) (bitSet known bit) refl refl
+                ∙ field-bit bit high;
+            past = λ bit low high.
+                taken bit
+                ∙ and-assoc (bitSet fields bit) (bitSet known bit) (bitSet r bit)
+                ∙ hidden-behind bit low high (bitSet fields bit) (bitSet known bit) (bitSet r bit) refl refl refl;
+          };
+        }
+      where
+        taken : (bit : ℕ) → bitSet (bitAnd (bitAnd fields known) r) bit ≡ ((bitSet fields bit && bitSet known bit) && bitSet r bit)
+        taken bit = and-bit (bitAnd fields known) r bit ∙ ap (λ (t : Bool). t && bitSet r bit) (and-bit fields known bit)
 
-    -- none below it does
-    pub left-between : (bit : ℕ) → from ≤ bit → bit < trailingZeros wordBits left → carriesField word bit ≡ false
-    left-between bit low high =
-        sym (l .behind bit low (omega (arith, trailing-le wordBits left))) ∙ trailing-clear wordBits left bit high
+        and-true : (t : Bool) → (t && true) ≡ t
+        and-true true = refl
+        and-true false = refl
+
+        and-assoc : (t u v : Bool) → ((t && u) && v) ≡ (t && u && v)
+        and-assoc true u v = refl
+        and-assoc false u v = refl
+
+module _ {word stop from left : ℕ} (l : LeftFrom word stop from left) where
+  -- the lowest bit left
+  abbrev first : ℕ
+  first = trailingZeros wordBits left
+
+  module _ (some : left ≡ 0 → ⊥) where
+    pub first-small : first < wordBits
+    first-small = trailing-below wordBits wordBits left (omega arith) (omega arith) (l .small)
+
+    -- it is set, so it is not before those left, nor behind the one that stops a walk, and it carries a field
+    first-not : (bitSet left first ≡ false) → ⊥
+    first-not clear =
+        let set : bitSet left first ≡ true = trailing-set wordBits left first-small in
+        let z : _≡_ {A = ℕ} 0 1 = cc in
+        omega arith
+
+    pub first-low : from ≤ first
+    first-low = go (decLe from first)
+      where
+        go : Dec (from ≤ first) → from ≤ first
+        go (yes h) = h
+        go (no h) = absurd (first-not (l .before first (omega arith)))
+
+    pub first-below : first < stop
+    first-below = go (decLe stop first)
+      where
+        go : Dec (stop ≤ first) → first < stop
+        go (yes h) = absurd (first-not (l .past first h first-small))
+        go (no h) = omega arith
+
+    pub first-carries : carriesField word first ≡ true
+    first-carries = sym (l .behind first first-low first-below first-small) ∙ trailing-set wordBits left first-small
+
+    -- none between does
+    pub first-between : (bit : ℕ) → from ≤ bit → bit < first → carriesField word bit ≡ false
+    first-between bit low high =
+        sym (l .behind bit low (omega (arith, first-below)) (omega (arith, first-small))) ∙ trailing-clear wordBits left bit high
 
     -- without it, what is behind it is left
-    pub left-next : trailingZeros wordBits left < wordBits → LeftFrom word (trailingZeros wordBits left + 1) (bitAnd left (left - 1))
-    left-next h = record {
+    pub left-next : LeftFrom word stop (first + 1) (bitAnd left (left - 1))
+    left-next = record {
       small = omega (arith, and-le-l left (left - 1), l .small);
-      before = λ bit less. cleared-low wordBits left bit (omega arith) (omega arith);
-      behind = λ bit low high. cleared-high wordBits left bit h (omega arith) ∙ l .behind bit (omega (arith, left-low h)) high;
+      before = λ bit less. cleared-low wordBits left bit (omega (arith, first-small)) (omega arith);
+      behind = λ bit low inside high. cleared-high wordBits left bit first-small (omega arith) ∙ l .behind bit (omega (arith, first-low)) inside high;
+      past = λ bit low high. cleared-high wordBits left bit first-small (omega (arith, first-below)) ∙ l .past bit low high;
     }
 
-  -- a bit that carries a field stops the walk where it is the first of those that are not known
-  module _ {known stop : ℕ} (t : StopsAt word known stop) {from left : ℕ} (l : LeftFrom word from left) where
-    -- the first of them is left where those left are not behind it
-    pub stop-left : from ≤ stop → trailingZeros wordBits left ≤ stop
-    stop-left low = go (decLe (trailingZeros wordBits left) stop)
-      where
-        go : Dec (trailingZeros wordBits left ≤ stop) → trailingZeros wordBits left ≤ stop
-        go (yes h) = h
-        go (no h) =
-            let inside : stop < wordBits = omega (arith, trailing-le wordBits left) in
-            let clear : carriesField word stop ≡ false = left-between l stop low (omega arith) in
-            let set : carriesField word stop ≡ true = t .carries inside in
-            let z : _≡_ {A = ℕ} 0 1 = cc in
-            absurd (omega arith)
+  -- where nothing is left, no bit below the one that stops a walk carries a field
+  pub left-none : left ≡ 0 → (bit : ℕ) → from ≤ bit → bit < stop → bit < wordBits → carriesField word bit ≡ false
+  left-none none bit low inside high =
+      sym (l .behind bit low inside high) ∙ ap (λ (n : ℕ). bitSet n bit) none ∙ ap (λ (n : ℕ). eqb (n % 2) 1) (zero-div (2 ^ bit))

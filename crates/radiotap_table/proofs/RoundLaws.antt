@@ -5,7 +5,8 @@ use mathlib.Core.Path.{_≡_, refl, sym, subst}
 use mathlib.Core.Bool.{Bool, true, false, _||_}
 use native.Mathlib.Omega.{arith}
 use lib.Dec.{eqb}
-use lib.Bits.{bitAnd, and-mask}
+use native.Mathlib.Nat.{add-div-right}
+use lib.Bits.{bitAnd, bitOr, and-mask, or-add-and}
 use lib.Pow.{pow-pos, split}
 use borrow.Author.Tests.{eqb-true}
 use Rattle.radiotap_rules.specs.Rules.{alignmentOk}
@@ -44,6 +45,18 @@ pub alignment-masked : (a at : ℕ) → alignmentOk a ≡ true → at + (a - 1) 
 alignment-masked a at ok =
     let p = alignment-power a ok in
     subst (λ (x : ℕ). at + (x - 1) - bitAnd (at + (x - 1)) (x - 1) ≡ aligned x at) (p .1) (power-masked (p .0) at)
+
+-- the mask of a power of two, laid over a place, fills up to the next multiple
+power-filled : (k last : ℕ) → bitOr last (2 ^ k - 1) + 1 ≡ aligned (2 ^ k) (last + 1)
+power-filled k last =
+    let past : last + 1 + (2 ^ k - 1) ≡ last + 2 ^ k = omega (arith, pow-pos k) in
+    rw (past, add-div-right last (pow-pos k)) (omega (arith, pow-pos k, or-add-and last (2 ^ k - 1), and-mask last k, split last k))
+
+-- so behind the last place that is not free, the next multiple of an alignment is found by its mask
+pub alignment-filled : (a last : ℕ) → alignmentOk a ≡ true → bitOr last (a - 1) + 1 ≡ aligned a (last + 1)
+alignment-filled a last ok =
+    let p = alignment-power a ok in
+    subst (λ (x : ℕ). bitOr last (x - 1) + 1 ≡ aligned x (last + 1)) (p .1) (power-filled (p .0) last)
 
 -- the same for 256
 pub masked-256 : (at : ℕ) → at + 255 - bitAnd (at + 255) 255 ≡ aligned 256 at

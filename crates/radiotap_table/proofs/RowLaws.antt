@@ -1,12 +1,13 @@
 -- What the table's test says of its rows, where a field lies by its row as it is read, and which row a bit has.
 -- Assumes nothing.
-use Prim.Native.Nat.{ℕ, zero, suc, _≤_, _<_, _+_, _-_}
+use Prim.Native.Nat.{ℕ, zero, suc, _≤_, _<_, _+_, _-_, _%_}
 use mathlib.Core.Path.{_≡_, refl, sym, ap, _∙_}
 use mathlib.Core.Bool.{Bool, true, false, cond, _&&_, and-eq-true-iff}
 use mathlib.Core.List.{List, [], _∷_}
 use native.Mathlib.Omega.{arith}
 use lib.ListN.{getD, List·getD-eq-default}
 use native.Mathlib.Nat.{div-mul-le-self}
+use lib.Bits.{bitOr}
 use lib.Dec.{leb, ltb}
 use borrow.Author.Tests.{leb-true, le-leb, lt-leb, ne-eqb}
 use Rattle.radiotap_rules.specs.Rules.{Row, Rules, unknown, rowOf, knows, alignmentOk, rowOk, rowsOk, tableOk}
@@ -14,8 +15,9 @@ use Rattle.radiotap_rules.specs.Table.{ourRules}
 use Rattle.radiotap_rules.specs.Reading.{aligned}
 use Rattle.radiotap_rules.specs.Answers.{unknownField, lies, layOf}
 use Rattle.radiotap_table.specs.Rows.{numbersOf, numbersIn}
-use Rattle.radiotap_table.specs.Says.{AlignedAs}
-use Rattle.radiotap_table.proofs.RoundLaws.{alignment-most}
+use Rattle.radiotap_table.specs.declared.Span.{Span}
+use Rattle.radiotap_table.specs.Says.{SpannedAs, AlignedAs}
+use Rattle.radiotap_table.proofs.RoundLaws.{alignment-above, alignment-most, alignment-filled}
 
 -- every row of rows that pass the test passes it
 row-ok : (newest : ℕ) (rs : List Row) (n : ℕ) → rowsOk newest rs ≡ true → rowOk newest (getD rs n unknown) ≡ true
@@ -77,10 +79,9 @@ module _ (rules : Rules) (n : ℕ) {r : List ℕ} (reads : r ≡ numbersIn rules
   first-read : getD r 2 0 ≡ rowOf rules n .first
   first-read = ap (λ (xs : List ℕ). getD xs 2 0) reads
 
-  -- a field by its row alone
-  pub row-placed : (at start : ℕ) → AlignedAs (getD r 0 0) at start
-      → (getD r 1 0 ≡ rowOf rules n .size) × (rowOf rules n .alignment ≡ 0 → start ≡ aligned 256 at)
-  row-placed at start next = (size-read, λ none. next .1 (alignment-read ∙ none))
+  -- what the field takes
+  pub row-spans : ((getD r 0 0 + 255) % 256 ≡ (rowOf rules n .alignment + 255) % 256) × (getD r 1 0 ≡ rowOf rules n .size)
+  row-spans = (ap (λ (a : ℕ). (a + 255) % 256) alignment-read, size-read)
 
   -- an edition knows a field whose row, as read, is of some edition that is not later
   pub known : (edition : ℕ) → (getD r 2 0 ≡ 0 → ⊥) → getD r 2 0 ≤ edition → knows rules edition n ≡ true
@@ -109,6 +110,16 @@ module _ (rules : Rules) (n : ℕ) {r : List ℕ} (reads : r ≡ numbersIn rules
         let same : start ≡ aligned (getD r 0 0) at = next .0 (rw alignment-read (known-alignment rules n edition ok k)) in
         rw (k, same, alignment-read, size-read)
 
+-- a field that an edition knows starts where its mask fills up the places behind the last that is not free
+pub span-lies : (edition bit last : ℕ) {p : Span} → SpannedAs bit p → knows ourRules edition bit ≡ true
+    → layOf ourRules edition bit (last + 1) ≡ lies (bitOr last (p .mask) + 1) (p .size)
+unfolding layOf
+span-lies edition bit last spans k =
+    let a : ℕ = rowOf ourRules bit .alignment in
+    let ok : alignmentOk a ≡ true = known-alignment ourRules bit edition refl k in
+    let mask : (a + 255) % 256 ≡ a - 1 = omega (arith, alignment-above a ok, alignment-most a ok) in
+    rw (k, spans .0, spans .1, mask, alignment-filled a last ok)
+
 -- a number that is none of so many from 0 on
 abbrev NoneOf : (k n : ℕ) → Type 0
 NoneOf zero n = Unit {0}
@@ -122,5 +133,9 @@ none-above (suc k) n h = let l = none-above k n (h .0) in let other = h .1 in om
 pub row-is : {bit : ℕ} (k : ℕ) → bit ≡ k → numbersIn ourRules k ≡ numbersIn ourRules bit
 row-is k e = ap (numbersIn ourRules) (sym e)
 
-pub row-past : {bit : ℕ} → NoneOf 32 bit → 0 ∷ 0 ∷ 0 ∷ [] ≡ numbersIn ourRules bit
-row-past {bit} h = ap numbersOf (sym (List·getD-eq-default (ourRules .rows) unknown {n = bit} (none-above 32 bit h)))
+pub row-past : {bit : ℕ} → 32 ≤ bit → 0 ∷ 0 ∷ 0 ∷ [] ≡ numbersIn ourRules bit
+row-past {bit} h = ap numbersOf (sym (List·getD-eq-default (ourRules .rows) unknown {n = bit} h))
+
+-- a bit is one of the rows'
+pub row-some : {A : Type 0} {bit : ℕ} → bit < 32 → NoneOf 32 bit → A
+row-some {bit = bit} h none = absurd (omega (arith, none-above 32 bit none))

@@ -46,7 +46,7 @@ trailing-set (suc k) n h = go (n % 2) refl h (trailing-set k (n / 2))
     go (suc (suc d)) e h rest = absurd (omega arith)
 
 -- in a number above 0 the lowest set bit lies inside its bits
-trailing-below : (m k n : ℕ) → m ≤ k → 0 < n → n < 2 ^ m → trailingZeros k n < m
+pub trailing-below : (m k n : ℕ) → m ≤ k → 0 < n → n < 2 ^ m → trailingZeros k n < m
 unfolding trailingZeros
 trailing-below zero k n h p l = absurd (omega arith)
 trailing-below (suc m) zero n h p l = absurd (omega arith)

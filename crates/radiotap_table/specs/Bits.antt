@@ -1,8 +1,9 @@
--- The set bits of a presence word, one after another.
+-- The bits of a presence word: the set ones, those that an edition knows, and what the word carries.
 use Prim.Native.Nat.{ℕ, _^_, _≤_, _<_}
 use mathlib.Core.Path.{_≡_}
 use mathlib.Core.Bool.{Bool, true, false, not, _&&_, _||_}
 use lib.Dec.{eqb}
+use lib.Count.{trailingZeros}
 use Rattle.radiotap_rules.specs.Rules.{knows}
 use Rattle.radiotap_rules.specs.Table.{ourRules}
 use Rattle.radiotap_rules.specs.Reading.{bitSet, wordBits}
@@ -26,15 +27,24 @@ bare bit = eqb bit 29 || eqb bit 31
 abbrev pub carriesField : (word bit : ℕ) → Bool
 carriesField word bit = bitSet word bit && not (bare bit)
 
--- what is left of a word from a bit on: its bits that carry a field
-pub record LeftFrom (word from left : ℕ) : Type 0 where
-  pub small : left < 2 ^ wordBits
-  pub before : (bit : ℕ) → bit < from → bitSet left bit ≡ false
-  pub behind : (bit : ℕ) → from ≤ bit → bit < wordBits → bitSet left bit ≡ carriesField word bit
-
 -- the first bit of a word that carries a field which is none of the known; past the word's bits where there is none
 pub record StopsAt (word known stop : ℕ) : Type 0 where
   pub below : (bit : ℕ) → bit < stop → bit < wordBits → carriesField word bit ≡ true → bitSet known bit ≡ true
   pub carries : stop < wordBits → carriesField word stop ≡ true
   pub unknown : stop < wordBits → bitSet known stop ≡ false
   pub high : stop ≤ wordBits
+
+-- what is left to be shown of a word from a bit on: its bits that carry a field, below the one that stops a walk
+pub record LeftFrom (word stop from left : ℕ) : Type 0 where
+  pub small : left < 2 ^ wordBits
+  pub before : (bit : ℕ) → bit < from → bitSet left bit ≡ false
+  pub behind : (bit : ℕ) → from ≤ bit → bit < stop → bit < wordBits → bitSet left bit ≡ carriesField word bit
+  pub past : (bit : ℕ) → stop ≤ bit → bit < wordBits → bitSet left bit ≡ false
+
+-- what a word carries: the unknown bits are those of its fields that are none of the known, the lowest of them stops a walk,
+-- and all that is shown is left
+pub record Carries (word known shown unknown : ℕ) : Type 0 where
+  pub small : unknown < 2 ^ wordBits
+  pub strange : (bit : ℕ) → bit < wordBits → bitSet unknown bit ≡ (carriesField word bit && not (bitSet known bit))
+  pub stops : StopsAt word known (trailingZeros wordBits unknown)
+  pub left : LeftFrom word (trailingZeros wordBits unknown) 0 shown

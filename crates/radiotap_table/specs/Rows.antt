@@ -1,7 +1,6 @@
 -- The rows of the table as the numbers that an array holds.
 use Prim.Native.Nat.{ℕ}
-use mathlib.Core.List.{List, [], _∷_, map}
-use lib.ListN.{getD}
+use mathlib.Core.List.{List, [], _∷_}
 use Rattle.radiotap_rules.specs.Rules.{Row, Rules, rowOf}
 
 -- a row's three numbers

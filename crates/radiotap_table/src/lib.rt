@@ -2,12 +2,13 @@
 // presence word, and where the field of a bit lies.
 ghost use mathlib.Core.Path.{_≡_};
 ghost use mathlib.Core.Bool.{cond, _&&_};
+ghost use Prim.Native.Nat.{_+_, _%_};
 ghost use lib.Dec.{leb};
 ghost use Rattle.radiotap_rules.specs.Rules.{editionTaken, served as isServed};
 ghost use Rattle.radiotap_rules.specs.Table.{ourRules};
 ghost use Rattle.radiotap_rules.specs.Answers.{layOf};
-ghost use Rattle.radiotap_table.specs.Says.{laySays, PlacedAs, RowPlaced, AlignedAs};
-ghost use Rattle.radiotap_table.specs.Bits.{NextSet, KnownBits, LeftFrom, StopsAt};
+ghost use Rattle.radiotap_table.specs.Says.{laySays, SpannedAs, AlignedAs};
+ghost use Rattle.radiotap_table.specs.Bits.{NextSet, KnownBits, Carries};
 ghost use Rattle.radiotap_table.specs.Rows.{numbersIn};
 
 // A row for each presence bit: alignment, size, first edition that knows it (0: none). Alignment counts from the
@@ -63,9 +64,9 @@ pub enum Layout {
     Lies { start: usize, size: u8 },
 }
 
-// Where a field starts, and its size.
-pub struct Place {
-    pub start: usize,
+// What a field takes: the mask of its alignment, by which it starts behind the last place that is not free, and its size.
+pub struct Span {
+    pub mask: usize,
     pub size: u8,
 }
 
@@ -112,8 +113,20 @@ pub fn next_set(word: u32, from: u32) -> u32
     from + u32::trailing_zeros(rest)
 }
 
-// The bits that an edition knows, as a presence word. The loop over constant rows becomes a few instructions.
+// The bits that an edition knows, as a presence word: a constant for each edition, gathered at compile time.
 pub fn known(edition: u32) -> u32
+    ensures { λ r. ⌜ KnownBits edition r ⌝ }
+{
+    match edition {
+        1 => gathered(1),
+        2 => gathered(2),
+        3 => gathered(3),
+        _ => gathered(edition),
+    }
+}
+
+// The bits that an edition knows, gathered row by row.
+fn gathered(edition: u32) -> u32
     ensures { λ r. ⌜ KnownBits edition r ⌝ }
 {
     let rows = ROWS;
@@ -129,21 +142,23 @@ pub fn known(edition: u32) -> u32
 // The bits of a presence word that carry a field: all but 29 and 31.
 pub const FIELD_BITS: u32 = 0x5fff_ffff;
 
-// What a presence word carries: its bits that carry a field, and the first of them that stops a walk, 32 where none does.
+// What a presence word carries: the bits of its fields that are shown, and of those that are unknown; the lowest of
+// these stops a walk.
 pub struct Carried {
-    pub left: u32,
-    pub stop: u32,
+    pub shown: u32,
+    pub unknown: u32,
 }
 
-// What a presence word carries in an edition that knows these bits.
+// What a presence word carries in an edition that knows these bits: the fields below the first unknown one are shown.
 pub fn carries(word: u32, known: u32) -> Carried
-    ensures { λ r. ⌜ LeftFrom word 0 (r .left) ⌝ }
-    ensures { λ r. ⌜ StopsAt word known (r .stop) ⌝ }
+    ensures { λ r. ⌜ Carries word known (r .shown) (r .unknown) ⌝ }
 {
-    let left = word & FIELD_BITS;
+    let fields = word & FIELD_BITS;
+    let known_fields = fields & known;
+    let unknown = fields ^ known_fields;
     Carried {
-        left,
-        stop: u32::trailing_zeros(left ^ (left & known)),
+        shown: known_fields & std::num::wrapping_sub_u32(unknown, 1),
+        unknown,
     }
 }
 
@@ -177,31 +192,42 @@ pub fn lay(edition: u32, bit: usize, at: u32) -> Layout
     }
 }
 
-// Where the field of a bit lies from the first free place on, in an edition that knows it.
-pub fn lies_at(bit: usize, at: u32) -> Place
-    ensures { λ r. ⌜ PlacedAs bit at r ⌝ }
-    ensures { λ r. ⌜ RowPlaced bit at r ⌝ }
+// What the field of a bit takes, in an edition that knows it.
+pub fn span_of(bit: usize) -> Span
+    ensures { λ r. ⌜ SpannedAs bit r ⌝ }
 {
     let row = row_of(bit);
-    let start = aligned(row[0], at);
+    let mask = mask_of(row[0]);
     let size = row[1];
-    Place { start, size }
+    Span { mask, size }
+}
+
+// The mask of an alignment: the alignment less one, and 255 for 0.
+fn mask_of(alignment: u8) -> usize
+    ensures { λ r. ⌜ r ≡ (alignment + 255) % 256 ⌝ }
+{
+    (alignment as usize + 255) % 256
 }
 
 // The next multiple of an alignment: a power of two, so that a mask gives the remainder.
 fn aligned(alignment: u8, at: u32) -> usize
     ensures { λ r. ⌜ AlignedAs alignment at r ⌝ }
 {
-    let mask = (alignment as usize + 255) % 256;
+    let mask = mask_of(alignment);
     let past = at as usize + mask;
     past - (past & mask)
 }
 
-// The row of a bit. Constant arms become a table in read-only memory, where `ROWS[bit]` would build the array at each call.
+// The row of a bit. Constant arms become a table in read-only memory, where `ROWS[bit]` would build the array at each
+// call. The last arm is never taken: it is unlike the rows of the last bits, so that the table has a place for every bit
+// and is read without a test.
 fn row_of(bit: usize) -> [u8; 3]
     ensures { λ r. ⌜ r ≡ numbersIn ourRules bit ⌝ }
 {
     let rows = ROWS;
+    if 32 <= bit {
+        return [0, 0, 0];
+    }
     match bit {
         0 => rows[0],
         1 => rows[1],
@@ -235,6 +261,6 @@ fn row_of(bit: usize) -> [u8; 3]
         29 => rows[29],
         30 => rows[30],
         31 => rows[31],
-        _ => [0, 0, 0],
+        _ => [1, 1, 1],
     }
 }

@@ -51,11 +51,17 @@ add-be32 c = search needs
 be32-requires : tie.Need-be32-requires
 be32-requires c κs = search needs
 
+cast-included : tie.Need-cast-included
+cast-included c = search needs
+
 be32-requires-2 : tie.Need-be32-requires-2
 be32-requires-2 c κs = search needs
 
-add-t10 : tie.Need-add-t10
-add-t10 c = search needs
+cast-if3 : tie.Need-cast-if3
+cast-if3 c = search needs
+
+add-t9 : tie.Need-add-t9
+add-t9 c = search needs
 
 returns-3 : tie.Need-returns-3
 returns-3 c =
@@ -64,9 +70,6 @@ returns-3 c =
     let lengths = lengths-known (c .before) in
     let above : n .original < n .included = omega (arith, lengths .0, lengths .1) in
     judged (c .before .before .before) ∙ judged-above (length (now (a .s)) - a .place) (a .place) n above
-
-cast-size : tie.Need-cast-size
-cast-size c = search needs
 
 returns-4 : tie.Need-returns-4
 returns-4 c =
@@ -77,11 +80,11 @@ returns-4 c =
     let past : length (now (a .s)) - a .place < 24 + n .included = omega (arith, lengths .0, lengths .1) in
     judged (c .before .before .before .before) ∙ judged-past (length (now (a .s)) - a .place) (a .place) n fits past
 
-add-t6 : tie.Need-add-t6
-add-t6 c = search needs
+add-t5 : tie.Need-add-t5
+add-t5 c = search needs
 
-add-t13 : tie.Need-add-t13
-add-t13 c = search needs
+add-t12 : tie.Need-add-t12
+add-t12 c = search needs
 
 returns-5 : tie.Need-returns-5
 returns-5 c =
@@ -103,11 +106,12 @@ judge-spec =
     returns-2
     add-be32
     be32-requires
+    cast-included
     be32-requires-2
-    add-t10
+    cast-if3
+    add-t9
     returns-3
-    cast-size
     returns-4
-    add-t6
-    add-t13
+    add-t5
+    add-t12
     returns-5)

@@ -1,6 +1,7 @@
--- `radiotap::read` meets its contract: the refusal before the fields, or the summary of what the walk leaves.
+-- `radiotap::read` meets its contract: the refusal before the fields, or the summary that counting them gives.
 -- Assumes nothing.
-use mathlib.Core.Path.{_≡_, sym, ap, _∙_}
+use mathlib.Core.Path.{_≡_, refl, sym, ap, _∙_}
+use lib.ListN.{getD}
 use denote.Ref.{now}
 use Rattle.refusals.specs.Refusals.{given}
 use Rattle.radiotap_rules.specs.Steps.{headAt}
@@ -21,19 +22,13 @@ enum-known-refusal c = search needs
 enum-known-head : tie.Need-enum-known-head
 enum-known-head c = search needs
 
-octet-requires : tie.Need-octet-requires
-octet-requires c κs = search needs
-
 reading-requires : tie.Need-reading-requires
 reading-requires c κs = search needs
 
-walk-requires : tie.Need-walk-requires
-walk-requires c κs =
-    let a = c .before .before .before .before .before .before .before .args in
-    opened-head (a .edition) (now (a .s)) (sym (c .before .before .before .before .before .opened .ensures) ∙ ap headSays (c .before .before .before .head .given .1))
-
-summarise-requires : tie.Need-summarise-requires
-summarise-requires c κs = search needs
+count-requires : tie.Need-count-requires
+count-requires c κs =
+    let a = c .before .before .before .before .before .before .args in
+    opened-head (a .edition) (now (a .s)) (sym (c .before .before .before .before .opened .ensures) ∙ ap headSays (c .before .before .head .given .1))
 
 returns : tie.Need-returns
 returns c =
@@ -42,11 +37,11 @@ returns c =
 
 returns-2 : tie.Need-returns-2
 returns-2 c =
-    let a = c .before .before .before .before .before .before .before .before .before .args in
-    let h = c .before .before .before .before .before .head .given .0 .0 in
-    let there : opening (a .edition) (headAt (now (a .s))) ≡ given h = sym (c .before .before .before .before .before .before .before .opened .ensures) ∙ ap headSays (c .before .before .before .before .before .head .given .1) in
-    c .summarise .ensures (now (a .s))
-    ∙ summary-by (a .edition) (now (a .s)) h there (c .before .before .reading .result) 0 (c .before .before .reading .ensures) _ (c .before .walk .ensures .0) (c .before .before .before .octet .result) (c .before .before .before .octet .ensures)
+    let a = c .before .before .before .before .before .before .before .args in
+    let h = c .before .before .before .head .given .0 .0 in
+    let there : opening (a .edition) (headAt (now (a .s))) ≡ given h = sym (c .before .before .before .before .before .opened .ensures) ∙ ap headSays (c .before .before .before .head .given .1) in
+    c .count .ensures
+    ∙ summary-by (a .edition) (now (a .s)) h there (c .before .reading .result) 0 (c .before .reading .ensures) _ refl (getD (now (a .s)) 1 0) refl
 
 pub read-spec : {M : Type 1} → statement M
 read-spec =
@@ -55,9 +50,7 @@ read-spec =
     opened-requires
     enum-known-refusal
     enum-known-head
-    octet-requires
     reading-requires
-    walk-requires
-    summarise-requires
+    count-requires
     returns
     returns-2)

@@ -1,69 +1,46 @@
--- `radiotap_list::fields` meets its contract: the answer is that of the whole header, and by its outline the first fields go into the list.
+-- `radiotap_list::fields` meets its contract: the refusal before the fields leaves the list, and behind a head it is walked twice.
 -- Assumes nothing.
-use Prim.Native.Nat.{_/_, _<_}
-use native.Mathlib.Omega.{arith}
-use native.Mathlib.Nat.{min-le-right}
-use mathlib.Core.Path.{_≡_, sym, ap, _∙_, subst}
-use lib.ListN.{length}
+use mathlib.Core.Path.{sym, ap, _∙_}
 use denote.Ref.{now}
 use borrow.Author.Needs.{needs}
-use Rattle.radiotap_rules.specs.declared.Cursor.{Cursor}
-use Rattle.radiotap_list.specs.declared.Outline.{Outline}
-use Rattle.radiotap_list.specs.Listing.{outlineOf}
-use Rattle.radiotap_list.proofs.FieldsLaws.{outline, outline-inside, outline-small, list-made}
+use Rattle.radiotap_rules.specs.Answers.{summary, listedInto}
+use Rattle.radiotap_head.specs.Says.{headSays}
+use Rattle.radiotap.proofs.ReadLaws.{opened-refused}
 use Rattle.radiotap_list.proofs.fields.Statement.{statement}
 use Rattle.radiotap_list.proofs.fields.Tie as tie
 
--- what the list takes is the outline of the header's reading
-outlined : (c : tie.After-outline-of) → c .outline-of .result ≡ outline (c .before .before .before .before .args .edition) (now (c .before .before .before .before .args .s))
-outlined c = c .outline-of .ensures ∙ ap outlineOf (c .before .read .ensures)
+opened-requires : tie.Need-opened-requires
+opened-requires c κs = search needs
 
-read-requires : tie.Need-read-requires
-read-requires c κs = search needs
+enum-known-refusal : tie.Need-enum-known-refusal
+enum-known-refusal c = search needs
 
-outline-of-requires : tie.Need-outline-of-requires
-outline-of-requires c κs = search needs
+enum-known-head : tie.Need-enum-known-head
+enum-known-head c = search needs
 
-first-requires : tie.Need-first-requires
-first-requires c κs =
-    let a = c .before .before .before .before .args in
-    subst (λ (o : Outline). o .size < 65536) (sym (outlined c))
-    (outline-small (a .edition) (now (a .s)) (λ i. c .before .before .before .shared-slice-known .given i .fits))
+twice-requires : tie.Need-twice-requires
+twice-requires c κs = sym (c .before .before .before .before .opened .ensures) ∙ ap headSays (c .before .before .head .given .1)
 
-fewer-requires : tie.Need-fewer-requires
-fewer-requires c κs = search needs
-
-reading-requires : tie.Need-reading-requires
-reading-requires c κs = search needs
-
-list-requires : tie.Need-list-requires
-list-requires c κs =
-    let a = c .before .before .before .before .before .before .before .before .args in
-    let o = c .before .before .before .before .outline-of .result in
-    let size = ap (λ (x : Cursor). x .size) (c .before .before .before .first .ensures) ∙ ap (λ (x : Outline). x .size) (outlined (c .before .before .before .before)) in
-    let few = min-le-right (o .fields) (length (now (a .out)) / 4) in
-    (omega (arith, size, outline-inside (a .edition) (now (a .s))), omega (arith, c .before .before .fewer .ensures, few))
+returns : tie.Need-returns
+returns c =
+    let a = c .before .before .before .before .before .before .args in
+    let refuses = opened-refused (a .edition) (now (a .s)) (sym (c .before .before .before .opened .ensures) ∙ ap headSays (c .before .refusal .given .1)) in
+    (sym (ap (summary (now (a .s))) refuses), sym (ap (listedInto (now (a .out))) refuses))
 
 same-length : tie.Need-same-length
 same-length c = search needs
 
-returns : tie.Need-returns
-returns c =
-    let a = c .before .before .before .before .before .before .before .before .before .before .before .args in (
-      c .before .before .before .before .before .before .before .before .read .ensures,
-      list-made (a .edition) (now (a .s)) (now (a .out)) (outlined (c .before .before .before .before .before .before .before)) (c .before .before .before .before .before .before .first .ensures) (c .before .before .before .before .before .fewer .ensures)
-          (c .before .before .before .before .reading .ensures) (c .before .before .list .ensures),
-    )
+returns-2 : tie.Need-returns-2
+returns-2 c = search needs
 
 pub fields-spec : {M : Type 1} → statement M
 fields-spec =
     tie.close
     (tie.spec
-    read-requires
-    outline-of-requires
-    first-requires
-    fewer-requires
-    reading-requires
-    list-requires
+    opened-requires
+    enum-known-refusal
+    enum-known-head
+    twice-requires
+    returns
     same-length
-    returns)
+    returns-2)

@@ -1,131 +1,268 @@
--- `radiotap_list::list` meets its contract: the loop keeps that the list holds the fields met so far and that those from the cursor on are the
--- rest (`SoFar`); each field that is met goes behind them.
+-- `radiotap_list::list` meets its contract: it walks as `radiotap::count` does (`AtWord`, `Counting`), and the loops keep besides that the
+-- list holds the first of the fields met so far, as many as there is room for (`SoFar`); the inner loop for any list that it was made from.
 -- Assumes nothing.
-use Prim.Native.Nat.{_-_}
+use Prim.Native.Nat.{ℕ, _-_, min}
 use native.Mathlib.Omega.{arith}
-use mathlib.Core.Path.{_≡_, sym, ap, _∙_, subst}
+use native.Mathlib.Nat.{zero-min}
+use mathlib.Core.Path.{_≡_, refl, sym, ap, _∙_, subst}
+use mathlib.Core.List.{List}
+use mathlib.Core.Logic.{⊎-elim}
 use lib.ListN.{length}
+use lib.Bits.{and-le-r}
+use lib.Count.{trailingZeros}
 use denote.Ref.{now}
 use borrow.Author.Needs.{needs}
+use Rattle.radiotap_rules.specs.declared.Cursor.{Cursor}
 use Rattle.radiotap_rules.specs.Table.{ourRules}
-use Rattle.radiotap_step.specs.Says.{stepSays, StepSized}
-use Rattle.radiotap_list.proofs.ListLaws.{SoFar, begins, keeps-length, refuses, finishes, fills, passes}
+use Rattle.radiotap_rules.specs.Reading.{wordBits}
+use Rattle.radiotap_rules.specs.Steps.{firstCursor}
+use Rattle.radiotap.specs.Outcomes.{summarised}
+use Rattle.radiotap.proofs.WalkLaws.{head-inside}
+use Rattle.radiotap.proofs.WalkLaws.{refuses as walk-refuses, finishes as walk-finishes}
+use Rattle.radiotap.proofs.CountLaws.{AtWord, Counting, word-first, few-words, few-fields, word-opens, stop-inside, stop-none, counts-stop, counts-end, counts-word, counts-small, counts-near, counts-past, counts-field, counts-next}
+use Rattle.radiotap_list.proofs.ListLaws.{SoFar, Filled, filled, rebased, begins, keeps-length, refuses, finishes, puts, skips}
 use Rattle.radiotap_list.proofs.list.Statement.{statement}
 use Rattle.radiotap_list.proofs.list.Tie as tie
 
+abbrev Inv-loop2 : tie.InvT-loop2
+Inv-loop2 s edition head room out₀ known pad size words index word last₀ fields₀ carried left₀ out last fields left =
+    (c : Cursor)
+    × Counting edition s known size words c index left (trailingZeros wordBits (carried .unknown)) last fields
+    × ((base : List ℕ) → Filled ourRules edition s room (firstCursor head) base out₀ (min fields₀ room)
+    → SoFar ourRules edition s room (firstCursor head) base out c (min fields room))
+
+abbrev μ-loop2 : tie.MeasureT-loop2
+μ-loop2 s edition head room out₀ known pad size words index word last₀ fields₀ carried left₀ out last fields left = left
+
 abbrev Inv-loop : tie.InvT-loop
-Inv-loop s edition count out₀ cursor₀ i₀ out cursor i = SoFar ourRules edition s count cursor₀ out₀ out cursor i
+Inv-loop s edition head room out₀ known pad size words index₀ word₀ last₀ fields₀ out index word last fields =
+    (c : Cursor)
+    × AtWord edition s known size words c index word last fields
+    × SoFar ourRules edition s room (firstCursor head) out₀ out c (min fields room)
 
 abbrev μ-loop : tie.MeasureT-loop
-μ-loop s edition count out₀ cursor₀ i₀ out cursor i = count - i
+μ-loop s edition head room out₀ known pad size words index₀ word₀ last₀ fields₀ out index word last fields = words - index
 
--- the list keeps its length
-stays : (c : tie.At-loop Inv-loop μ-loop) → length (c .loop .out) ≡ length (now (c .before .before .before .args .out))
+-- what the list holds, made from the one lent
+holds : (c : tie.At-loop2 Inv-loop2 μ-loop2 Inv-loop μ-loop)
+    → SoFar ourRules (c .before .before .before .before .before .before .before .before .before .args .edition) (now (c .before .before .before .before .before .before .before .before .before .args .s)) (c .before .before .before .before .before .before .before .before .before .args .room) (firstCursor (c .before .before .before .before .before .before .before .before .before .args .head)) (now (c .before .before .before .before .before .before .before .before .before .args .out)) (c .loop2 .out) (c .loop2 .inv .0) (min (c .loop2 .fields) (c .before .before .before .before .before .before .before .before .before .args .room))
+holds c =
+    let a = c .before .before .before .before .before .before .before .before .before .args in
+    c .loop2 .inv .2 (now (a .out)) (filled ourRules (a .edition) (now (a .s)) (a .room) (firstCursor (a .head)) (c .before .before .loop .inv .2))
+
+-- it keeps its length
+stays : (c : tie.At-loop2 Inv-loop2 μ-loop2 Inv-loop μ-loop) → length (c .loop2 .out) ≡ length (now (c .before .before .before .before .before .before .before .before .before .args .out))
 stays c =
-    let a = c .before .before .before .args in
-    keeps-length ourRules (a .edition) (now (a .s)) (a .count) (a .from) (now (a .out)) (c .loop .inv) (c .before .before .before .pre .1)
+    let a = c .before .before .before .before .before .before .before .before .before .args in
+    keeps-length ourRules (a .edition) (now (a .s)) (a .room) (firstCursor (a .head)) (now (a .out)) (holds c) (c .before .before .before .before .before .before .before .before .before .pre .1)
 
-loop-holds : tie.Need-loop-holds Inv-loop μ-loop
+known-requires : tie.Need-known-requires Inv-loop2 μ-loop2 Inv-loop μ-loop
+known-requires c κs = search needs
+
+octet-requires : tie.Need-octet-requires Inv-loop2 μ-loop2 Inv-loop μ-loop
+octet-requires c κs = search needs
+
+cast-size : tie.Need-cast-size Inv-loop2 μ-loop2 Inv-loop μ-loop
+cast-size c = search needs
+
+cast-words : tie.Need-cast-words Inv-loop2 μ-loop2 Inv-loop μ-loop
+cast-words c = search needs
+
+cast-last : tie.Need-cast-last Inv-loop2 μ-loop2 Inv-loop μ-loop
+cast-last c = search needs
+
+mul-last : tie.Need-mul-last Inv-loop2 μ-loop2 Inv-loop μ-loop
+mul-last c = search needs
+
+add-last : tie.Need-add-last Inv-loop2 μ-loop2 Inv-loop μ-loop
+add-last c = search needs
+
+loop-holds : tie.Need-loop-holds Inv-loop2 μ-loop2 Inv-loop μ-loop
 loop-holds c =
-    let a = c .before .before .args in
-    begins ourRules (a .edition) (now (a .s)) (a .count) (a .from) (now (a .out)) (c .before .before .pre .0)
+    let a = c .before .before .before .before .before .before .args in
+    let none : 0 ≡ min 0 (a .room) = sym (zero-min (a .room)) in (
+      _,
+      word-first (a .edition) (now (a .s)) (c .before .before .before .known .result) (a .head) (c .before .before .before .before .before .before .pre .0) (c .before .before .before .known .ensures),
+      subst (SoFar ourRules (a .edition) (now (a .s)) (a .room) (firstCursor (a .head)) (now (a .out)) (now (a .out)) (firstCursor (a .head))) none
+          (begins ourRules (a .edition) (now (a .s)) (a .room) (firstCursor (a .head)) (now (a .out)) (head-inside (now (a .s)) (a .head) (c .before .before .before .before .before .before .pre .0))),
+    )
 
-next-requires : tie.Need-next-requires Inv-loop μ-loop
-next-requires c κs = tt
+carries-requires : tie.Need-carries-requires Inv-loop2 μ-loop2 Inv-loop μ-loop
+carries-requires c κs = search needs
 
-enum-told : tie.Need-enum-told Inv-loop μ-loop
-enum-told c = search needs
+loop2-holds : tie.Need-loop2-holds Inv-loop2 μ-loop2 Inv-loop μ-loop
+loop2-holds c =
+    let a = c .before .before .before .before .before .before .before .before .args in
+    (_, word-opens (a .edition) (now (a .s)) (c .before .before .before .before .before .known .result) (c .before .loop .inv .1) (c .carries .ensures), rebased ourRules (a .edition) (now (a .s)) (a .room) (firstCursor (a .head)) (c .before .loop .inv .2))
 
-same-length : tie.Need-same-length Inv-loop μ-loop
-same-length c = stays (c .before .before .before .before)
+cast-span-of : tie.Need-cast-span-of Inv-loop2 μ-loop2 Inv-loop μ-loop
+cast-span-of c =
+    let a = c .before .before .before .before .before .before .before .before .before .before .args in
+    omega (arith, counts-small (a .edition) (now (a .s)) (c .before .before .before .before .before .before .before .known .result) (c .before .loop2 .inv .1) (c .loop2-test .taken))
 
-returns : tie.Need-returns Inv-loop μ-loop
+span-of-requires : tie.Need-span-of-requires Inv-loop2 μ-loop2 Inv-loop μ-loop
+span-of-requires c κs = search needs
+
+cast-last-2 : tie.Need-cast-last-2 Inv-loop2 μ-loop2 Inv-loop μ-loop
+cast-last-2 c = search needs
+
+add-last-2 : tie.Need-add-last-2 Inv-loop2 μ-loop2 Inv-loop μ-loop
+add-last-2 c =
+    let a = c .before .before .before .before .before .before .before .before .before .before .before .before .before .args in
+    omega (arith, counts-near (a .edition) (now (a .s)) (c .before .before .before .before .before .before .before .before .before .before .known .result) (c .before .before .before .before .loop2 .inv .1) (c .before .before .before .loop2-test .taken) (c .before .before .span-of .ensures), c .before .before .before .before .loop2 .inv .1 .sofar .room, c .before .before .before .before .before .before .before .before .struct-known .given, c .struct-known4 .given)
+
+add-t23 : tie.Need-add-t23 Inv-loop2 μ-loop2 Inv-loop μ-loop
+add-t23 c =
+    let a = c .before .before .before .before .before .before .before .before .before .before .before .before .before .before .args in
+    omega (arith, counts-near (a .edition) (now (a .s)) (c .before .before .before .before .before .before .before .before .before .before .before .known .result) (c .before .before .before .before .before .loop2 .inv .1) (c .before .before .before .before .loop2-test .taken) (c .before .before .before .span-of .ensures), c .before .before .before .before .before .loop2 .inv .1 .sofar .room, c .before .before .before .before .before .before .before .before .before .struct-known .given)
+
+same-length : tie.Need-same-length Inv-loop2 μ-loop2 Inv-loop μ-loop
+same-length c = stays (c .before .before .before .before .before)
+
+returns : tie.Need-returns Inv-loop2 μ-loop2 Inv-loop μ-loop
 returns c =
-    let a = c .before .before .before .before .before .before .before .args in
-    let step = sym (c .before .before .next .ensures .0) ∙ ap (stepSays (now (a .s))) (c .enum-told .given .1) in
-    refuses ourRules (a .edition) (now (a .s)) (a .count) (a .from) (now (a .out)) (c .before .before .before .before .loop .inv) step
+    let a = c .before .before .before .before .before .before .before .before .before .before .before .before .before .before .args in
+    let i = c .before .before .before .before .before .loop2 .inv in
+    let step = counts-past (a .edition) (now (a .s)) (c .before .before .before .before .before .before .before .before .before .before .before .known .result) (i .1) (c .before .before .before .before .loop2-test .taken) (c .before .before .before .span-of .ensures) (c .if1 .taken) in (
+      sym (ap (summarised _ (a .head)) (walk-refuses ourRules (a .edition) (now (a .s)) 0 (i .1 .sofar .found) step)),
+      refuses ourRules (a .edition) (now (a .s)) (a .room) (firstCursor (a .head)) (now (a .out)) (holds (c .before .before .before .before .before)) step,
+    )
 
-enum-told-2 : tie.Need-enum-told-2 Inv-loop μ-loop
-enum-told-2 c = search needs
+mul-put : tie.Need-mul-put Inv-loop2 μ-loop2 Inv-loop μ-loop
+mul-put c = omega (arith, c .before .before .before .before .before .before .before .before .before .before .before .before .before .before .before .before .pre .1)
 
-same-length-2 : tie.Need-same-length-2 Inv-loop μ-loop
+add-put : tie.Need-add-put Inv-loop2 μ-loop2 Inv-loop μ-loop
+add-put c =
+    let a = c .before .before .before .before .before .before .before .before .before .before .before .before .before .before .before .before .args in
+    omega (arith, counts-near (a .edition) (now (a .s)) (c .before .before .before .before .before .before .before .before .before .before .before .before .before .known .result) (c .before .before .before .before .before .before .before .loop2 .inv .1) (c .before .before .before .before .before .before .loop2-test .taken) (c .before .before .before .before .before .span-of .ensures), c .before .before .before .before .before .before .before .loop2 .inv .1 .sofar .room, c .before .before .before .before .before .before .before .before .before .before .before .struct-known .given)
+
+put-requires : tie.Need-put-requires Inv-loop2 μ-loop2 Inv-loop μ-loop
+put-requires c κs = omega (arith, stays (c .before .before .before .before .before .before .before), c .before .before .before .before .before .before .before .before .before .before .before .before .before .before .before .before .pre .1)
+
+add-fields : tie.Need-add-fields Inv-loop2 μ-loop2 Inv-loop μ-loop
+add-fields c =
+    let a = c .before .before .before .before .before .before .before .before .before .before .before .before .before .before .before .args in
+    omega (arith, few-fields (a .edition) (now (a .s)) (c .before .before .before .before .before .before .before .before .before .before .before .before .known .result) (c .before .before .before .before .before .before .loop2 .inv .1 .sofar))
+
+sub-left : tie.Need-sub-left Inv-loop2 μ-loop2 Inv-loop μ-loop
+sub-left c = search needs
+
+loop2-less : tie.Need-loop2-less Inv-loop2 μ-loop2 Inv-loop μ-loop
+loop2-less c =
+    let left = c .before .before .before .before .before .before .loop2 .left in
+    let some = c .before .before .before .before .before .loop2-test .taken in
+    omega (arith, and-le-r left (left - 1))
+
+loop2-again : tie.Need-loop2-again Inv-loop2 μ-loop2 Inv-loop μ-loop
+loop2-again c =
+    let a = c .before .before .before .before .before .before .before .before .before .before .before .before .before .before .before .args in
+    let i = c .before .before .before .before .before .before .loop2 .inv in
+    let some = c .before .before .before .before .before .loop2-test .taken in
+    let spans = c .before .before .before .before .span-of .ensures in
+    let step = counts-field (a .edition) (now (a .s)) (c .before .before .before .before .before .before .before .before .before .before .before .before .known .result) (i .1) some spans (c .before .if1 .left) in (
+      _,
+      counts-next (a .edition) (now (a .s)) (c .before .before .before .before .before .before .before .before .before .before .before .before .known .result) (i .1) some spans (c .before .if1 .left),
+      λ base same.
+          ⊎-elim
+          (λ w. puts ourRules (a .edition) (now (a .s)) (a .room) (firstCursor (a .head)) base (i .2 base same) (w .0 .taken) _ _ _ _ step refl (w .5 ∙ w .2 .ensures))
+          (λ w. skips ourRules (a .edition) (now (a .s)) (a .room) (firstCursor (a .head)) base (i .2 base same) (w .0 .left) refl (w .1))
+          (c .if2 .came),
+    )
+
+same-length-2 : tie.Need-same-length-2 Inv-loop2 μ-loop2 Inv-loop μ-loop
 same-length-2 c = stays (c .before .before .before .before)
 
-returns-2 : tie.Need-returns-2 Inv-loop μ-loop
+returns-2 : tie.Need-returns-2 Inv-loop2 μ-loop2 Inv-loop μ-loop
 returns-2 c =
-    let a = c .before .before .before .before .before .before .before .args in
-    let step = sym (c .before .before .next .ensures .0) ∙ ap (stepSays (now (a .s))) (c .enum-told2 .given .1) in
-    finishes ourRules (a .edition) (now (a .s)) (a .count) (a .from) (now (a .out)) (c .before .before .before .before .loop .inv) step
+    let a = c .before .before .before .before .before .before .before .before .before .before .before .before .before .args in
+    let i = c .before .before .before .before .loop2 .inv in
+    let inside = stop-inside (a .edition) (now (a .s)) (c .before .before .before .before .before .before .before .before .before .before .known .result) (c .before .before .before .before .before .carries .ensures) (c .before .if3 .taken) in
+    let step = counts-stop (a .edition) (now (a .s)) (c .before .before .before .before .before .before .before .before .before .before .known .result) (i .1) (c .before .before .before .loop2-test .left) inside in (
+      rw (c .before .before .before .before .before .before .before .before .before .octet .ensures) (sym (ap (summarised _ (a .head)) (walk-finishes ourRules (a .edition) (now (a .s)) 0 (i .1 .sofar .found) step))),
+      finishes ourRules (a .edition) (now (a .s)) (a .room) (firstCursor (a .head)) (now (a .out)) (holds (c .before .before .before .before)) step,
+    )
 
-enum-told-3 : tie.Need-enum-told-3 Inv-loop μ-loop
-enum-told-3 c = search needs
+add-index : tie.Need-add-index Inv-loop2 μ-loop2 Inv-loop μ-loop
+add-index c =
+    let a = c .before .before .before .before .before .before .before .before .before .before .before .before .args in
+    let w = c .before .before .before .loop2 .inv .1 .sofar in
+    omega (arith, w .more, few-words (a .edition) (now (a .s)) (c .before .before .before .before .before .before .before .before .before .known .result) w)
 
-same-length-3 : tie.Need-same-length-3 Inv-loop μ-loop
+same-length-3 : tie.Need-same-length-3 Inv-loop2 μ-loop2 Inv-loop μ-loop
 same-length-3 c = stays (c .before .before .before .before)
 
-returns-3 : tie.Need-returns-3 Inv-loop μ-loop
+returns-3 : tie.Need-returns-3 Inv-loop2 μ-loop2 Inv-loop μ-loop
 returns-3 c =
-    let a = c .before .before .before .before .before .before .before .args in
-    let step = sym (c .before .before .next .ensures .0) ∙ ap (stepSays (now (a .s))) (c .enum-told3 .given .1) in
-    finishes ourRules (a .edition) (now (a .s)) (a .count) (a .from) (now (a .out)) (c .before .before .before .before .loop .inv) step
+    let a = c .before .before .before .before .before .before .before .before .before .before .before .before .before .args in
+    let i = c .before .before .before .before .loop2 .inv in
+    let past = stop-none (a .edition) (now (a .s)) (c .before .before .before .before .before .before .before .before .before .before .known .result) (c .before .if3 .left) in
+    let step = counts-end (a .edition) (now (a .s)) (c .before .before .before .before .before .before .before .before .before .before .known .result) (i .1) (c .before .before .before .loop2-test .left) past (c .if4 .taken) in (
+      rw (c .before .before .before .before .before .before .before .before .before .octet .ensures) (sym (ap (summarised _ (a .head)) (walk-finishes ourRules (a .edition) (now (a .s)) 0 (i .1 .sofar .found) step))),
+      finishes ourRules (a .edition) (now (a .s)) (a .room) (firstCursor (a .head)) (now (a .out)) (holds (c .before .before .before .before)) step,
+    )
 
-enum-known-word : tie.Need-enum-known-word Inv-loop μ-loop
-enum-known-word c = search needs
+cast-le32 : tie.Need-cast-le32 Inv-loop2 μ-loop2 Inv-loop μ-loop
+cast-le32 c = search needs
 
-mul-put : tie.Need-mul-put Inv-loop μ-loop
-mul-put c = omega arith
+mul-le32 : tie.Need-mul-le32 Inv-loop2 μ-loop2 Inv-loop μ-loop
+mul-le32 c = search needs
 
-cast-put : tie.Need-cast-put Inv-loop μ-loop
-cast-put c = search needs
+add-le32 : tie.Need-add-le32 Inv-loop2 μ-loop2 Inv-loop μ-loop
+add-le32 c = search needs
 
-put-requires : tie.Need-put-requires Inv-loop μ-loop
-put-requires c κs = omega (arith, stays (c .before .before .before .before .before .before))
+le32-requires : tie.Need-le32-requires Inv-loop2 μ-loop2 Inv-loop μ-loop
+le32-requires c κs = search needs
 
-add-i : tie.Need-add-i Inv-loop μ-loop
-add-i c = omega arith
+loop-less : tie.Need-loop-less Inv-loop2 μ-loop2 Inv-loop μ-loop
+loop-less c = omega (arith, c .before .before .before .before .before .loop2 .inv .1 .sofar .more)
 
-loop-less : tie.Need-loop-less Inv-loop μ-loop
-loop-less c = omega arith
-
-loop-again : tie.Need-loop-again Inv-loop μ-loop
+loop-again : tie.Need-loop-again Inv-loop2 μ-loop2 Inv-loop μ-loop
 loop-again c =
-    let a = c .before .before .before .before .before .before .before .before .before .before .before .before .args in
-    let found = c .before .before .before .before .before .word .given in
-    let step = sym (c .before .before .before .before .before .before .before .next .ensures .0) ∙ ap (stepSays (now (a .s))) (found .1) in
-    let sized = subst StepSized (found .1) (c .before .before .before .before .before .before .before .next .ensures .1) in
-    passes ourRules (a .edition) (now (a .s)) (a .count) (a .from) (now (a .out)) (c .before .before .before .before .before .before .before .before .before .loop .inv) _ _ _ _ (c .before .before .before .before .before .before .before .before .loop-test .taken) step sized (c .before .before .put .ensures)
-
-same-length-4 : tie.Need-same-length-4 Inv-loop μ-loop
-same-length-4 c = stays (c .before)
-
-returns-4 : tie.Need-returns-4 Inv-loop μ-loop
-returns-4 c =
-    let a = c .before .before .before .before .args in
-    fills ourRules (a .edition) (now (a .s)) (a .count) (a .from) (now (a .out)) (c .before .loop .inv) (c .loop-test .left)
+    let a = c .before .before .before .before .before .before .before .before .before .before .before .before .before .before .args in
+    let i = c .before .before .before .before .before .loop2 .inv in
+    let past = stop-none (a .edition) (now (a .s)) (c .before .before .before .before .before .before .before .before .before .before .before .known .result) (c .before .before .if3 .left) in
+    (_, counts-word (a .edition) (now (a .s)) (c .before .before .before .before .before .before .before .before .before .before .before .known .result) (i .1) (c .before .before .before .before .loop2-test .left) past (c .before .if4 .left) (c .le32 .ensures), holds (c .before .before .before .before .before))
 
 pub list-spec : {M : Type 1} → statement M
 list-spec =
     tie.close
     (tie.spec
+    Inv-loop2
+    μ-loop2
     Inv-loop
     μ-loop
+    known-requires
+    octet-requires
+    cast-size
+    cast-words
+    cast-last
+    mul-last
+    add-last
     loop-holds
-    next-requires
-    enum-told
+    carries-requires
+    loop2-holds
+    cast-span-of
+    span-of-requires
+    cast-last-2
+    add-last-2
+    add-t23
     same-length
     returns
-    enum-told-2
+    mul-put
+    add-put
+    put-requires
+    add-fields
+    sub-left
+    loop2-less
+    loop2-again
     same-length-2
     returns-2
-    enum-told-3
+    add-index
     same-length-3
     returns-3
-    enum-known-word
-    mul-put
-    cast-put
-    put-requires
-    add-i
+    cast-le32
+    mul-le32
+    add-le32
+    le32-requires
     loop-less
-    loop-again
-    same-length-4
-    returns-4)
+    loop-again)

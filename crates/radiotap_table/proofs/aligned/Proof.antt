@@ -1,7 +1,7 @@
 -- `radiotap_table::aligned` meets its contract: an alignment is a power of two, and the mask of a power of two is the remainder.
 -- Assumes nothing.
 use Prim.Native.Nat.{_+_, _-_, _%_}
-use mathlib.Core.Path.{_≡_}
+use mathlib.Core.Path.{_≡_, _∙_}
 use borrow.Author.Needs.{needs}
 use native.Mathlib.Omega.{arith}
 use lib.Bits.{and-le-l}
@@ -9,8 +9,8 @@ use Rattle.radiotap_table.proofs.RoundLaws.{alignment-above, alignment-
 use Rattle.radiotap_table.proofs.aligned.Statement.{statement}
 use Rattle.radiotap_table.proofs.aligned.Tie as tie
 
-add-mask : tie.Need-add-mask
-add-mask c = search needs
+mask-of-requires : tie.Need-mask-of-requires
+mask-of-requires c κs = search needs
 
 add-past : tie.Need-add-past
 add-past c = search needs
@@ -20,14 +20,14 @@ sub-result c = and-le-l _ _
 
 returns : tie.Need-returns
 returns c =
-    let a = c .args .alignment in (
+    let a = c .before .args .alignment in (
       λ ok.
           let mask : (a + 255) % 256 ≡ a - 1 = omega (arith, alignment-above a ok, alignment-most a ok) in
-          rw mask (alignment-masked a (c .args .at) ok),
+          rw (c .mask-of .ensures ∙ mask) (alignment-masked a (c .before .args .at) ok),
       λ none.
           let mask : (a + 255) % 256 ≡ 255 = omega arith in
-          rw mask (masked-256 (c .args .at)),
+          rw (c .mask-of .ensures ∙ mask) (masked-256 (c .before .args .at)),
     )
 
 pub aligned-spec : {M : Type 1} → statement M
-aligned-spec = tie.close (tie.spec add-mask add-past sub-result returns)
+aligned-spec = tie.close (tie.spec mask-of-requires add-past sub-result returns)

@@ -1,11 +1,17 @@
--- `radiotap_table::carries` meets its contract: a mask leaves the bits that carry a field, and the first of them that is not known stops.
+-- `radiotap_table::carries` meets its contract: masks part the bits that carry a field into known and unknown ones, and the number below
+-- the unknown ones keeps the known that are below the first of them.
 -- Assumes nothing.
-use Rattle.radiotap_table.proofs.LeftLaws.{left-first, stops-first}
+use native.Mathlib.Omega.{arith}
+use borrow.Author.Needs.{needs}
+use Rattle.radiotap_table.proofs.LeftLaws.{carries-all}
 use Rattle.radiotap_table.proofs.carries.Statement.{statement}
 use Rattle.radiotap_table.proofs.carries.Tie as tie
 
+wrapping-sub-u32-requires : tie.Need-wrapping-sub-u32-requires
+wrapping-sub-u32-requires c κs = search needs
+
 returns : tie.Need-returns
-returns c = let a = c .args in (left-first (a .word), stops-first (a .word) (left-first (a .word)) (a .known))
+returns c = let a = c .before .args in carries-all (a .word) (a .known) (c .wrapping-sub-u32 .result) (omega arith) (c .wrapping-sub-u32 .ensures)
 
 pub carries-spec : {M : Type 1} → statement M
-carries-spec = tie.close (tie.spec returns)
+carries-spec = tie.close (tie.spec wrapping-sub-u32-requires returns)

@@ -1,69 +1,45 @@
--- `radiotap_table::known` meets its contract: the loop keeps that the bits from the row reached on are gathered (`KnownFrom`).
+-- `radiotap_table::known` meets its contract: the bits of each edition are gathered for that edition.
 -- Assumes nothing.
-use Prim.Native.Nat.{_+_, _-_, _*_, _≤_}
-use native.Mathlib.Omega.{arith}
+use Prim.Native.Nat.{ℕ}
+use mathlib.Core.Path.{sym, subst}
 use borrow.Author.Needs.{needs}
-use Rattle.radiotap_table.proofs.KnownLaws.{KnownFrom, known-first, known-small, known-next, known-all}
+use Rattle.radiotap_table.specs.Bits.{KnownBits}
 use Rattle.radiotap_table.proofs.known.Statement.{statement}
 use Rattle.radiotap_table.proofs.known.Tie as tie
 
-abbrev Inv-loop : tie.InvT-loop
-Inv-loop edition rows bits₀ bit₀ bits bit = KnownFrom edition bit bits
+gathered-requires : tie.Need-gathered-requires
+gathered-requires c κs = search needs
 
-abbrev μ-loop : tie.MeasureT-loop
-μ-loop edition rows bits₀ bit₀ bits bit = bit
+gathered-requires-2 : tie.Need-gathered-requires-2
+gathered-requires-2 c κs = search needs
 
--- the row below is gathered
-gathers : (c : tie.After-knows Inv-loop μ-loop) → (c .knows .result ≤ 1) × KnownFrom (c .before .before .before .before .args .edition) (c .before .before .before .loop .bit - 1) (2 * c .before .before .before .loop .bits + c .knows .result)
-gathers c = known-next (c .before .before .before .before .args .edition) (c .before .before .before .loop .inv) (c .knows .result) (c .before .before .loop-test .taken) (c .knows .ensures)
+gathered-requires-3 : tie.Need-gathered-requires-3
+gathered-requires-3 c κs = search needs
 
-loop-holds : tie.Need-loop-holds Inv-loop μ-loop
-loop-holds c = known-first (c .args .edition)
+gathered-requires-4 : tie.Need-gathered-requires-4
+gathered-requires-4 c κs = search needs
 
-sub-bit : tie.Need-sub-bit Inv-loop μ-loop
-sub-bit c = search needs
+returns : tie.Need-returns
+returns c = subst (λ (n : ℕ). KnownBits n (c .gathered .result)) (sym (c .before .match .keys1)) (c .gathered .ensures)
 
-mul-bits : tie.Need-mul-bits Inv-loop μ-loop
-mul-bits c = omega (arith, known-small (c .before .before .args .edition) (c .before .loop .inv) (omega arith))
+returns-2 : tie.Need-returns-2
+returns-2 c = subst (λ (n : ℕ). KnownBits n (c .gathered2 .result)) (sym (c .before .match .keys2)) (c .gathered2 .ensures)
 
-mul-knows : tie.Need-mul-knows Inv-loop μ-loop
-mul-knows c = omega (arith, c .before .loop .inv .low)
+returns-3 : tie.Need-returns-3
+returns-3 c = subst (λ (n : ℕ). KnownBits n (c .gathered3 .result)) (sym (c .before .match .keys3)) (c .gathered3 .ensures)
 
-index-1-knows : tie.Need-index-1-knows Inv-loop μ-loop
-index-1-knows c = omega (arith, c .before .loop .inv .low)
-
-index-2-knows : tie.Need-index-2-knows Inv-loop μ-loop
-index-2-knows c = search needs
-
-knows-requires : tie.Need-knows-requires Inv-loop μ-loop
-knows-requires c κs = search needs
-
-add-bits : tie.Need-add-bits Inv-loop μ-loop
-add-bits c = omega (arith, gathers c .0, known-small (c .before .before .before .before .args .edition) (c .before .before .before .loop .inv) (omega arith))
-
-loop-less : tie.Need-loop-less Inv-loop μ-loop
-loop-less c = search needs
-
-loop-again : tie.Need-loop-again Inv-loop μ-loop
-loop-again c = gathers c .1
-
-returns : tie.Need-returns Inv-loop μ-loop
-returns c = known-all (c .before .before .args .edition) (c .before .loop .inv) (c .loop-test .left)
+returns-4 : tie.Need-returns-4
+returns-4 c = search needs
 
 pub known-spec : {M : Type 1} → statement M
 known-spec =
     tie.close
     (tie.spec
-    Inv-loop
-    μ-loop
-    loop-holds
-    sub-bit
-    mul-bits
-    mul-knows
-    index-1-knows
-    index-2-knows
-    knows-requires
-    add-bits
-    loop-less
-    loop-again
-    returns)
+    gathered-requires
+    gathered-requires-2
+    gathered-requires-3
+    gathered-requires-4
+    returns
+    returns-2
+    returns-3
+    returns-4)

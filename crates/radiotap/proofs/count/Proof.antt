@@ -1,0 +1,196 @@
+-- `radiotap::count` meets its contract: the outer loop keeps what was found up to a word (`AtWord`), the inner one where it stands in the
+-- word (`Counting`); each bit that is shown is a field that is met or refused, and behind them the word stops the walk or is passed.
+-- Assumes nothing.
+use Prim.Native.Nat.{_-_}
+use native.Mathlib.Omega.{arith}
+use mathlib.Core.Path.{sym, ap}
+use lib.Bits.{and-le-r}
+use lib.Count.{trailingZeros}
+use denote.Ref.{now}
+use borrow.Author.Needs.{needs}
+use Rattle.radiotap_rules.specs.declared.Cursor.{Cursor}
+use Rattle.radiotap_rules.specs.Table.{ourRules}
+use Rattle.radiotap_rules.specs.Reading.{wordBits}
+use Rattle.radiotap.specs.Outcomes.{summarised}
+use Rattle.radiotap.proofs.WalkLaws.{refuses, finishes}
+use Rattle.radiotap.proofs.CountLaws.{AtWord, Counting, word-first, few-words, few-fields, word-opens, stop-inside, stop-none, counts-stop, counts-end, counts-word, counts-small, counts-near, counts-past, counts-next}
+use Rattle.radiotap.proofs.count.Statement.{statement}
+use Rattle.radiotap.proofs.count.Tie as tie
+
+abbrev Inv-loop2 : tie.InvT-loop2
+Inv-loop2 s edition head known pad size words index word last₀ fields₀ carried left₀ last fields left =
+    (c : Cursor) × Counting edition s known size words c index left (trailingZeros wordBits (carried .unknown)) last fields
+
+abbrev μ-loop2 : tie.MeasureT-loop2
+μ-loop2 s edition head known pad size words index word last₀ fields₀ carried left₀ last fields left = left
+
+abbrev Inv-loop : tie.InvT-loop
+Inv-loop s edition head known pad size words index₀ word₀ last₀ fields₀ index word last fields =
+    (c : Cursor) × AtWord edition s known size words c index word last fields
+
+abbrev μ-loop : tie.MeasureT-loop
+μ-loop s edition head known pad size words index₀ word₀ last₀ fields₀ index word last fields = words - index
+
+known-requires : tie.Need-known-requires Inv-loop2 μ-loop2 Inv-loop μ-loop
+known-requires c κs = search needs
+
+octet-requires : tie.Need-octet-requires Inv-loop2 μ-loop2 Inv-loop μ-loop
+octet-requires c κs = search needs
+
+cast-size : tie.Need-cast-size Inv-loop2 μ-loop2 Inv-loop μ-loop
+cast-size c = search needs
+
+cast-words : tie.Need-cast-words Inv-loop2 μ-loop2 Inv-loop μ-loop
+cast-words c = search needs
+
+cast-last : tie.Need-cast-last Inv-loop2 μ-loop2 Inv-loop μ-loop
+cast-last c = search needs
+
+mul-last : tie.Need-mul-last Inv-loop2 μ-loop2 Inv-loop μ-loop
+mul-last c = search needs
+
+add-last : tie.Need-add-last Inv-loop2 μ-loop2 Inv-loop μ-loop
+add-last c = search needs
+
+loop-holds : tie.Need-loop-holds Inv-loop2 μ-loop2 Inv-loop μ-loop
+loop-holds c =
+    let a = c .before .before .before .before .before .args in
+    (_, word-first (a .edition) (now (a .s)) (c .before .before .before .known .result) (a .head) (c .before .before .before .before .before .pre) (c .before .before .before .known .ensures))
+
+carries-requires : tie.Need-carries-requires Inv-loop2 μ-loop2 Inv-loop μ-loop
+carries-requires c κs = search needs
+
+loop2-holds : tie.Need-loop2-holds Inv-loop2 μ-loop2 Inv-loop μ-loop
+loop2-holds c =
+    let a = c .before .before .before .before .before .before .before .args in
+    (_, word-opens (a .edition) (now (a .s)) (c .before .before .before .before .before .known .result) (c .before .loop .inv .1) (c .carries .ensures))
+
+cast-span-of : tie.Need-cast-span-of Inv-loop2 μ-loop2 Inv-loop μ-loop
+cast-span-of c =
+    let a = c .before .before .before .before .before .before .before .before .before .args in
+    omega (arith, counts-small (a .edition) (now (a .s)) (c .before .before .before .before .before .before .before .known .result) (c .before .loop2 .inv .1) (c .loop2-test .taken))
+
+span-of-requires : tie.Need-span-of-requires Inv-loop2 μ-loop2 Inv-loop μ-loop
+span-of-requires c κs = search needs
+
+cast-last-2 : tie.Need-cast-last-2 Inv-loop2 μ-loop2 Inv-loop μ-loop
+cast-last-2 c = search needs
+
+add-last-2 : tie.Need-add-last-2 Inv-loop2 μ-loop2 Inv-loop μ-loop
+add-last-2 c =
+    let a = c .before .before .before .before .before .before .before .before .before .before .before .before .args in
+    omega (arith, counts-near (a .edition) (now (a .s)) (c .before .before .before .before .before .before .before .before .before .before .known .result) (c .before .before .before .before .loop2 .inv .1) (c .before .before .before .loop2-test .taken) (c .before .before .span-of .ensures), c .before .before .before .before .loop2 .inv .1 .sofar .room, c .before .before .before .before .before .before .before .before .struct-known .given, c .struct-known4 .given, c .struct-known4 .given)
+
+add-t21 : tie.Need-add-t21 Inv-loop2 μ-loop2 Inv-loop μ-loop
+add-t21 c =
+    let a = c .before .before .before .before .before .before .before .before .before .before .before .before .before .args in
+    omega (arith, counts-near (a .edition) (now (a .s)) (c .before .before .before .before .before .before .before .before .before .before .before .known .result) (c .before .before .before .before .before .loop2 .inv .1) (c .before .before .before .before .loop2-test .taken) (c .before .before .before .span-of .ensures), c .before .before .before .before .before .loop2 .inv .1 .sofar .room, c .before .before .before .before .before .before .before .before .before .struct-known .given)
+
+returns : tie.Need-returns Inv-loop2 μ-loop2 Inv-loop μ-loop
+returns c =
+    let a = c .before .before .before .before .before .before .before .before .before .before .before .before .before .args in
+    let w = c .before .before .before .before .before .loop2 .inv .1 in
+    let step = counts-past (a .edition) (now (a .s)) (c .before .before .before .before .before .before .before .before .before .before .before .known .result) w (c .before .before .before .before .loop2-test .taken) (c .before .before .before .span-of .ensures) (c .if1 .taken) in
+    sym (ap (summarised _ (a .head)) (refuses ourRules (a .edition) (now (a .s)) 0 (w .sofar .found) step))
+
+add-fields : tie.Need-add-fields Inv-loop2 μ-loop2 Inv-loop μ-loop
+add-fields c =
+    let a = c .before .before .before .before .before .before .before .before .before .before .before .before .before .args in
+    omega (arith, few-fields (a .edition) (now (a .s)) (c .before .before .before .before .before .before .before .before .before .before .before .known .result) (c .before .before .before .before .before .loop2 .inv .1 .sofar))
+
+sub-left : tie.Need-sub-left Inv-loop2 μ-loop2 Inv-loop μ-loop
+sub-left c = search needs
+
+loop2-less : tie.Need-loop2-less Inv-loop2 μ-loop2 Inv-loop μ-loop
+loop2-less c =
+    let left = c .before .before .before .before .before .loop2 .left in
+    let some = c .before .before .before .before .loop2-test .taken in
+    omega (arith, and-le-r left (left - 1))
+
+loop2-again : tie.Need-loop2-again Inv-loop2 μ-loop2 Inv-loop μ-loop
+loop2-again c =
+    let a = c .before .before .before .before .before .before .before .before .before .before .before .before .before .args in
+    (_, counts-next (a .edition) (now (a .s)) (c .before .before .before .before .before .before .before .before .before .before .before .known .result) (c .before .before .before .before .before .loop2 .inv .1) (c .before .before .before .before .loop2-test .taken) (c .before .before .before .span-of .ensures) (c .if1 .left))
+
+returns-2 : tie.Need-returns-2 Inv-loop2 μ-loop2 Inv-loop μ-loop
+returns-2 c =
+    let a = c .before .before .before .before .before .before .before .before .before .before .before .before .args in
+    let w = c .before .before .before .before .loop2 .inv .1 in
+    let known = c .before .before .before .before .before .before .before .before .before .before .known .result in
+    let inside = stop-inside (a .edition) (now (a .s)) known (c .before .before .before .before .before .carries .ensures) (c .before .if2 .taken) in
+    let step = counts-stop (a .edition) (now (a .s)) known w (c .before .before .before .loop2-test .left) inside in
+    rw (c .before .before .before .before .before .before .before .before .before .octet .ensures) (sym (ap (summarised _ (a .head)) (finishes ourRules (a .edition) (now (a .s)) 0 (w .sofar .found) step)))
+
+add-index : tie.Need-add-index Inv-loop2 μ-loop2 Inv-loop μ-loop
+add-index c =
+    let a = c .before .before .before .before .before .before .before .before .before .before .before .args in
+    let w = c .before .before .before .loop2 .inv .1 in
+    omega (arith, w .sofar .more, few-words (a .edition) (now (a .s)) (c .before .before .before .before .before .before .before .before .before .known .result) (w .sofar))
+
+returns-3 : tie.Need-returns-3 Inv-loop2 μ-loop2 Inv-loop μ-loop
+returns-3 c =
+    let a = c .before .before .before .before .before .before .before .before .before .before .before .before .args in
+    let w = c .before .before .before .before .loop2 .inv .1 in
+    let past = stop-none (a .edition) (now (a .s)) (c .before .before .before .before .before .before .before .before .before .before .known .result) (c .before .if2 .left) in
+    let step = counts-end (a .edition) (now (a .s)) (c .before .before .before .before .before .before .before .before .before .before .known .result) w (c .before .before .before .loop2-test .left) past (c .if3 .taken) in
+    rw (c .before .before .before .before .before .before .before .before .before .octet .ensures) (sym (ap (summarised _ (a .head)) (finishes ourRules (a .edition) (now (a .s)) 0 (w .sofar .found) step)))
+
+cast-le32 : tie.Need-cast-le32 Inv-loop2 μ-loop2 Inv-loop μ-loop
+cast-le32 c = search needs
+
+mul-le32 : tie.Need-mul-le32 Inv-loop2 μ-loop2 Inv-loop μ-loop
+mul-le32 c = search needs
+
+add-le32 : tie.Need-add-le32 Inv-loop2 μ-loop2 Inv-loop μ-loop
+add-le32 c = search needs
+
+le32-requires : tie.Need-le32-requires Inv-loop2 μ-loop2 Inv-loop μ-loop
+le32-requires c κs = search needs
+
+loop-less : tie.Need-loop-less Inv-loop2 μ-loop2 Inv-loop μ-loop
+loop-less c = omega (arith, c .before .before .before .before .before .loop2 .inv .1 .sofar .more)
+
+loop-again : tie.Need-loop-again Inv-loop2 μ-loop2 Inv-loop μ-loop
+loop-again c =
+    let a = c .before .before .before .before .before .before .before .before .before .before .before .before .before .args in
+    let w = c .before .before .before .before .before .loop2 .inv .1 in
+    let past = stop-none (a .edition) (now (a .s)) (c .before .before .before .before .before .before .before .before .before .before .before .known .result) (c .before .before .if2 .left) in
+    (_, counts-word (a .edition) (now (a .s)) (c .before .before .before .before .before .before .before .before .before .before .before .known .result) w (c .before .before .before .before .loop2-test .left) past (c .before .if3 .left) (c .le32 .ensures))
+
+pub count-spec : {M : Type 1} → statement M
+count-spec =
+    tie.close
+    (tie.spec
+    Inv-loop2
+    μ-loop2
+    Inv-loop
+    μ-loop
+    known-requires
+    octet-requires
+    cast-size
+    cast-words
+    cast-last
+    mul-last
+    add-last
+    loop-holds
+    carries-requires
+    loop2-holds
+    cast-span-of
+    span-of-requires
+    cast-last-2
+    add-last-2
+    add-t21
+    returns
+    add-fields
+    sub-left
+    loop2-less
+    loop2-again
+    returns-2
+    add-index
+    returns-3
+    cast-le32
+    mul-le32
+    add-le32
+    le32-requires
+    loop-less
+    loop-again)
