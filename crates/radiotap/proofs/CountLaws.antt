@@ -1,20 +1,26 @@
 -- What a walk that counts the fields has found so far and where it stands, word by word and bit by bit.
 -- Assumes nothing.
 use Prim.Native.Nat.{ℕ, _+_, _-_, _*_, _≤_, _<_}
-use mathlib.Core.Path.{_≡_, refl, sym, ap, subst₂}
+use mathlib.Core.Path.{_≡_, refl, sym, ap, _∙_, subst₂}
+use mathlib.Core.Bool.{Bool, true, false, cond, _&&_}
 use mathlib.Core.List.{List}
 use native.Mathlib.Omega.{arith}
+use lib.ListN.{length, getD}
+use lib.Dec.{leb, ltb, eqb}
 use lib.Bits.{bitAnd, bitOr}
 use lib.Count.{trailingZeros, trailing-of-zero}
+use borrow.Author.Tests.{le-ltb, leb-true}
 use Rattle.octets.specs.Numbers.{little, numberAt}
 use Rattle.octets.specs.Parts.{part}
-use Rattle.refusals.specs.Refusals.{given}
+use Rattle.refusals.specs.Refusals.{refused, given, shortHeader, version}
 use Rattle.radiotap_rules.specs.declared.Head.{Head}
 use Rattle.radiotap_rules.specs.declared.Cursor.{Cursor}
 use Rattle.radiotap_rules.specs.Table.{ourRules}
-use Rattle.radiotap_rules.specs.Reading.{fieldPast, mostWords, wordBits, Field, ended, stopped}
+use Rattle.radiotap_rules.specs.Reading.{headerLength, fixedLength, lengthIn, fixedHeader, fieldPast, mostWords, wordBits, Field, ended, stopped}
 use Rattle.radiotap_rules.specs.Steps.{headAt, firstCursor, refusedStep, over, met, stepOf}
-use Rattle.radiotap_rules.proofs.Words.{words-few}
+use Rattle.radiotap_rules.proofs.Words.{words-few, words-inside}
+use Rattle.radiotap_rules.proofs.Places.{length-inside}
+use Rattle.radiotap_head.specs.Says.{wordInside}
 use Rattle.radiotap_rules.proofs.Steps.{headed}
 use Rattle.radiotap_table.specs.declared.Span.{Span}
 use Rattle.radiotap_table.specs.Says.{SpannedAs}
@@ -23,6 +29,20 @@ use Rattle.radiotap_table.proofs.SetLaws.{trailing-below}
 use Rattle.radiotap_step.proofs.StepLaws.{Reached, starts, ends}
 use Rattle.radiotap_step.proofs.WordLaws.{Standing, opens, stops-here, passes-word, bit-small, start, starts-near, refuses-past, behind, meets-field, stands-behind}
 use Rattle.radiotap.proofs.WalkLaws.{SoFar, begins, countable, passes}
+
+-- the length that the fixed header gives is at least the fixed header's
+length-least : (s : List ℕ) (size : ℕ) → fixedHeader s ≡ given size → fixedLength ≤ size
+unfolding fixedHeader
+length-least s size =
+    go (ltb (length s) fixedLength) (eqb (getD s 0 0) 0) (leb fixedLength (lengthIn s)) (leb (lengthIn s) (length s)) refl shortHeader (length s) headerLength 2 version 0
+  where
+    go : (a b c d : Bool) → leb fixedLength (lengthIn s) ≡ c → (n p n′ p′ n″ p″ : ℕ)
+        → cond a (refused n p) (cond b (cond (c && d) (given (lengthIn s)) (refused n′ p′)) (refused n″ p″)) ≡ given size → fixedLength ≤ size
+    go true b c d l n p n′ p′ n″ p″ e = let z : _≡_ {A = ℕ} 0 1 = cc in absurd (omega arith)
+    go false true true true l n p n′ p′ n″ p″ e = let same : lengthIn s ≡ size = cc in omega (arith, leb-true fixedLength (lengthIn s) l, same)
+    go false true true false l n p n′ p′ n″ p″ e = let z : _≡_ {A = ℕ} 0 1 = cc in absurd (omega arith)
+    go false true false d l n p n′ p′ n″ p″ e = let z : _≡_ {A = ℕ} 0 1 = cc in absurd (omega arith)
+    go false false c d l n p n′ p′ n″ p″ e = let z : _≡_ {A = ℕ} 0 1 = cc in absurd (omega arith)
 
 -- so many fields are found up to a cursor, whichever of them is kept, and the walk is in one of so many words, its last place
 -- that is not free not far behind the length
@@ -33,6 +53,7 @@ pub record Found (edition : ℕ) (s : List ℕ) (known size words : ℕ) (c : Cu
   pub count : c .words ≡ words
   pub more : index < words
   pub room : last ≤ size + 35
+  pub inside : 4 + 4 * words ≤ length s
 
 -- at the start of a word
 pub record AtWord (edition : ℕ) (s : List ℕ) (known size words : ℕ) (c : Cursor) (index word last fields : ℕ) : Type 0 where
@@ -60,6 +81,7 @@ module _ (edition : ℕ) (s : List ℕ) (known : ℕ) where
           count = refl;
           more = omega (arith, there .count, few .0);
           room = omega (arith, there .count, few .1);
+          inside = omega (arith, there .count, words-inside s (h .size) (there .ws) (there .words) (length-least s (h .size) (there .header)), length-inside s (h .size) (there .header));
         };
         reached = starts ourRules edition s (firstCursor h);
         free = omega arith;
@@ -102,10 +124,11 @@ module _ (edition : ℕ) (s : List ℕ) (known : ℕ) where
         ends ourRules edition s c (passes-word edition s known (w .sofar .knowing) (w .stands) (here-more (w .sofar)) none past)
         (omega (arith, w .sofar .count))
 
-    pub counts-word : left ≡ 0 → wordBits ≤ stop → (index + 1 ≡ words → ⊥) → {word : ℕ} → word ≡ numberAt little 4 s (4 + 4 * (index + 1))
+    pub counts-word : left ≡ 0 → wordBits ≤ stop → (index + 1 ≡ words → ⊥) → {word : ℕ} → word ≡ wordInside s (index + 1)
         → AtWord edition s known size words c (index + 1) word last fields
     counts-word none past other told =
         let before = w .sofar in
+        let there : ltb (length s) (4 + 4 * (index + 1) + 4) ≡ false = le-ltb (length s) (4 + 4 * (index + 1) + 4) (omega (arith, before .more, before .inside)) in
         record {
           sofar = record {
             kept = before .kept;
@@ -114,9 +137,11 @@ module _ (edition : ℕ) (s : List ℕ) (known : ℕ) where
             count = before .count;
             more = omega (arith, before .more);
             room = before .room;
+            inside = before .inside;
           };
           reached =
-              subst₂ (Reached ourRules edition s c) (omega arith) (sym told)
+              subst₂ (Reached ourRules edition s c) (omega arith)
+              (sym (told ∙ ap (λ (t : Bool). cond t 0 (numberAt little 4 s (4 + 4 * (index + 1)))) there))
               (passes-word edition s known (before .knowing) (w .stands) (here-more before) none past);
           free = w .stands .free;
         }
@@ -161,6 +186,7 @@ module _ (edition : ℕ) (s : List ℕ) (known : ℕ) where
                   count = before .count;
                   more = before .more;
                   room = omega arith;
+                  inside = before .inside;
                 };
                 stands = stands-behind edition s known (before .knowing) (w .stands) (here-more before) some spans (omega arith);
               }

@@ -151,7 +151,7 @@ fn count(s: &[u8], edition: u32, head: Head) -> ReadAnswer
                 words: head.words,
             };
         }
-        word = octets::le32(s, 4 + 4 * index as usize);
+        word = radiotap_head::word_at(s, index);
     }
 }
 

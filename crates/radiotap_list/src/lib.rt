@@ -128,7 +128,7 @@ fn list(s: &[u8], edition: u32, head: Head, room: usize, out: &mut [u64]) -> Rea
                 words: head.words,
             };
         }
-        word = octets::le32(s, 4 + 4 * index as usize);
+        word = radiotap_head::word_at(s, index);
     }
 }
 

@@ -135,17 +135,8 @@ returns-3 c =
     let step = counts-end (a .edition) (now (a .s)) (c .before .before .before .before .before .before .before .before .before .before .known .result) w (c .before .before .before .loop2-test .left) past (c .if3 .taken) in
     rw (c .before .before .before .before .before .before .before .before .before .octet .ensures) (sym (ap (summarised _ (a .head)) (finishes ourRules (a .edition) (now (a .s)) 0 (w .sofar .found) step)))
 
-cast-le32 : tie.Need-cast-le32 Inv-loop2 μ-loop2 Inv-loop μ-loop
-cast-le32 c = search needs
-
-mul-le32 : tie.Need-mul-le32 Inv-loop2 μ-loop2 Inv-loop μ-loop
-mul-le32 c = search needs
-
-add-le32 : tie.Need-add-le32 Inv-loop2 μ-loop2 Inv-loop μ-loop
-add-le32 c = search needs
-
-le32-requires : tie.Need-le32-requires Inv-loop2 μ-loop2 Inv-loop μ-loop
-le32-requires c κs = search needs
+word-at-requires : tie.Need-word-at-requires Inv-loop2 μ-loop2 Inv-loop μ-loop
+word-at-requires c κs = search needs
 
 loop-less : tie.Need-loop-less Inv-loop2 μ-loop2 Inv-loop μ-loop
 loop-less c = omega (arith, c .before .before .before .before .before .loop2 .inv .1 .sofar .more)
@@ -155,7 +146,7 @@ loop-again c =
     let a = c .before .before .before .before .before .before .before .before .before .before .before .before .before .args in
     let w = c .before .before .before .before .before .loop2 .inv .1 in
     let past = stop-none (a .edition) (now (a .s)) (c .before .before .before .before .before .before .before .before .before .before .before .known .result) (c .before .before .if2 .left) in
-    (_, counts-word (a .edition) (now (a .s)) (c .before .before .before .before .before .before .before .before .before .before .before .known .result) w (c .before .before .before .before .loop2-test .left) past (c .before .if3 .left) (c .le32 .ensures))
+    (_, counts-word (a .edition) (now (a .s)) (c .before .before .before .before .before .before .before .before .before .before .before .known .result) w (c .before .before .before .before .loop2-test .left) past (c .before .if3 .left) (c .word-at .ensures))
 
 pub count-spec : {M : Type 1} → statement M
 count-spec =
@@ -188,9 +179,6 @@ count-spec =
     returns-2
     add-index
     returns-3
-    cast-le32
-    mul-le32
-    add-le32
-    le32-requires
+    word-at-requires
     loop-less
     loop-again)

@@ -201,17 +201,8 @@ returns-3 c =
       finishes ourRules (a .edition) (now (a .s)) (a .room) (firstCursor (a .head)) (now (a .out)) (holds (c .before .before .before .before)) step,
     )
 
-cast-le32 : tie.Need-cast-le32 Inv-loop2 μ-loop2 Inv-loop μ-loop
-cast-le32 c = search needs
-
-mul-le32 : tie.Need-mul-le32 Inv-loop2 μ-loop2 Inv-loop μ-loop
-mul-le32 c = search needs
-
-add-le32 : tie.Need-add-le32 Inv-loop2 μ-loop2 Inv-loop μ-loop
-add-le32 c = search needs
-
-le32-requires : tie.Need-le32-requires Inv-loop2 μ-loop2 Inv-loop μ-loop
-le32-requires c κs = search needs
+word-at-requires : tie.Need-word-at-requires Inv-loop2 μ-loop2 Inv-loop μ-loop
+word-at-requires c κs = search needs
 
 loop-less : tie.Need-loop-less Inv-loop2 μ-loop2 Inv-loop μ-loop
 loop-less c = omega (arith, c .before .before .before .before .before .loop2 .inv .1 .sofar .more)
@@ -221,7 +212,7 @@ loop-again c =
     let a = c .before .before .before .before .before .before .before .before .before .before .before .before .before .before .args in
     let i = c .before .before .before .before .before .loop2 .inv in
     let past = stop-none (a .edition) (now (a .s)) (c .before .before .before .before .before .before .before .before .before .before .before .known .result) (c .before .before .if3 .left) in
-    (_, counts-word (a .edition) (now (a .s)) (c .before .before .before .before .before .before .before .before .before .before .before .known .result) (i .1) (c .before .before .before .before .loop2-test .left) past (c .before .if4 .left) (c .le32 .ensures), holds (c .before .before .before .before .before))
+    (_, counts-word (a .edition) (now (a .s)) (c .before .before .before .before .before .before .before .before .before .before .before .known .result) (i .1) (c .before .before .before .before .loop2-test .left) past (c .before .if4 .left) (c .word-at .ensures), holds (c .before .before .before .before .before))
 
 pub list-spec : {M : Type 1} → statement M
 list-spec =
@@ -260,9 +251,6 @@ list-spec =
     add-index
     same-length-3
     returns-3
-    cast-le32
-    mul-le32
-    add-le32
-    le32-requires
+    word-at-requires
     loop-less
     loop-again)
