@@ -20,7 +20,7 @@ pub fn header(out: &mut [u8], place: usize, datalink: u32) -> WriteAnswer
     if !btsnoop::header::served(datalink) {
         return refusals::write_refused(refusals::DATALINK);
     }
-    if !octets_put::has_room(out.len(), place, HEADER_LENGTH) {
+    if !octets::has_room(out.len(), place, HEADER_LENGTH) {
         return refusals::write_refused(refusals::NO_ROOM);
     }
     header_octets(out, place, datalink);
@@ -55,7 +55,7 @@ pub fn record(
         return refusals::write_refused(refusals::INCLUDED_LENGTH);
     }
     let size = RECORD_LENGTH + packet.len();
-    if !octets_put::has_room(out.len(), place, size) {
+    if !octets::has_room(out.len(), place, size) {
         return refusals::write_refused(refusals::NO_ROOM);
     }
     lengths(out, place, original, packet.len() as u32);

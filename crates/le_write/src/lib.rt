@@ -45,7 +45,7 @@ fn within(out: &mut [u8], place: usize, values: Values, packet: &[u8]) -> WriteA
         return refusals::write_refused(refusals::PACKET);
     }
     let size = HEADER_LENGTH + packet.len();
-    if !octets_put::has_room(out.len(), place, size) {
+    if !octets::has_room(out.len(), place, size) {
         return refusals::write_refused(refusals::NO_ROOM);
     }
     header(out, place, values);

@@ -30,7 +30,7 @@ pub fn write(output: &mut [u8], place: usize, input: &[u8]) -> WriteAnswer
     ensures { λ _. ⌜ now (output .exit) ≡ listingWritten (now (output .entry)) place (now (input .entry)) ⌝ }
 {
     let size = size(input);
-    if octets_put::has_room(output.len(), place, size) {
+    if octets::has_room(output.len(), place, size) {
         WriteAnswer::Written(lines(output, place, input))
     } else {
         refusals::write_refused(refusals::NO_ROOM)

@@ -3,9 +3,19 @@
 ghost use mathlib.Core.Path.{_≡_};
 ghost use mathlib.Core.List.{[], _∷_};
 ghost use Prim.Native.Nat.{_+_};
-ghost use lib.ListN.{length, getD};
+ghost use lib.ListN.{getD};
 ghost use Rattle.octets.specs.Numbers.{little, big, number, numberAt};
 ghost use Rattle.octets.specs.Parts.{part as partOf, hasRoom};
+
+// Whether an input or output of a length has room for so many octets from a place on.
+pub fn has_room(size: usize, at: usize, n: usize) -> bool
+    ensures { λ r. ⌜ r ≡ hasRoom size at n ⌝ }
+{
+    if size < at {
+        return false;
+    }
+    if n <= size - at { true } else { false }
+}
 
 // The octet so many octets after a place, 0 past the end.
 pub fn octet(s: &[u8], at: usize, after: usize) -> u8
@@ -65,7 +75,7 @@ pub fn le16(s: &[u8], at: usize) -> u16
 pub fn le32(s: &[u8], at: usize) -> u32
     ensures { λ r. ⌜ r ≡ numberAt little 4 (now (s .entry)) at ⌝ }
 {
-    if is_inside(s, at, 4) {
+    if has_room(s.len(), at, 4) {
         join32(s[at + 3], s[at + 2], s[at + 1], s[at + 0])
     } else {
         join32(
@@ -91,16 +101,6 @@ pub fn le64(s: &[u8], at: usize) -> u64
         octet(s, at, 1),
         octet(s, at, 0),
     )
-}
-
-// Whether so many octets from a place on lie inside an input; those of a number are then read without a test of each.
-fn is_inside(s: &[u8], at: usize, n: usize) -> bool
-    ensures { λ r. ⌜ r ≡ hasRoom (length (now (s .entry))) at n ⌝ }
-{
-    if at > s.len() {
-        return false;
-    }
-    if n <= s.len() - at { true } else { false }
 }
 
 // The number of two octets, the most significant first.

@@ -2,17 +2,7 @@
 // of them nothing is written.
 ghost use mathlib.Core.Path.{_≡_};
 ghost use Rattle.octets.specs.Numbers.{little, big, octetsOf};
-ghost use Rattle.octets.specs.Parts.{put as putAt, hasRoom};
-
-// Whether an output of a length has room for so many octets from a place on.
-pub fn has_room(size: usize, at: usize, n: usize) -> bool
-    ensures { λ r. ⌜ r ≡ hasRoom size at n ⌝ }
-{
-    if size < at {
-        return false;
-    }
-    if n <= size - at { true } else { false }
-}
+ghost use Rattle.octets.specs.Parts.{put as putAt};
 
 // Writes octets into an output from a place on; without room for all of them it writes none.
 pub fn put(out: &mut [u8], at: usize, octets: &[u8])

@@ -46,7 +46,7 @@ pub fn write(
                 return refusals::write_refused(VALUES_LENGTH);
             }
             let length = size as usize;
-            if !octets_put::has_room(out.len(), place, length) {
+            if !octets::has_room(out.len(), place, length) {
                 return refusals::write_refused(refusals::NO_ROOM);
             }
             put_header(out, place, edition, presence, values, size);

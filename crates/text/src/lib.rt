@@ -41,7 +41,7 @@ fn put_negative(out: &mut [u8], at: usize, n: u64) -> usize
     let mut text = [0u8; 20];
     let digits = io::decimal(n + 1, &mut text);
     let size = digits + 1;
-    if octets_put::has_room(out.len(), at, size) {
+    if octets::has_room(out.len(), at, size) {
         octets_put::put(out, at, b"-");
         octets_put::put(out, at + 1, &text[..digits]);
     }

@@ -14,10 +14,10 @@ use Rattle.octets.proofs.le32.Tie as tie
 
 -- past the test all four octets lie inside
 inside : (c : tie.Then1) → c .before .before .before .args .at + 4 ≤ length (now (c .before .before .before .args .s))
-inside c = leb-true _ _ (sym (c .before .is-inside .ensures) ∙ c .if1 .taken)
+inside c = leb-true _ _ (sym (c .before .has-room .ensures) ∙ c .if1 .taken)
 
-is-inside-requires : tie.Need-is-inside-requires
-is-inside-requires c κs = search needs
+has-room-requires : tie.Need-has-room-requires
+has-room-requires c κs = search needs
 
 add-join32 : tie.Need-add-join32
 add-join32 c = let room = inside c in record { fits = omega arith }
@@ -76,7 +76,7 @@ pub le32-spec : {M : Type 1} → statement M
 le32-spec =
     tie.close
     (tie.spec
-    is-inside-requires
+    has-room-requires
     add-join32
     shared-slice-read-join32
     add-join32-2

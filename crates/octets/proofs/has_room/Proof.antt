@@ -1,11 +1,11 @@
--- `octets_put::has_room` meets its contract: by cases, the test of the sum decided without forming it.
+-- `octets::has_room` meets its contract: by cases, the test of the sum decided without forming it.
 -- Assumes nothing.
 use Prim.Native.Nat.{_+_, _<_, _≤_}
 use native.Mathlib.Omega.{arith}
 use mathlib.Core.Path.{sym}
 use borrow.Author.Tests.{le-leb, lt-leb}
-use Rattle.octets_put.proofs.has_room.Statement.{statement}
-use Rattle.octets_put.proofs.has_room.Tie as tie
+use Rattle.octets.proofs.has_room.Statement.{statement}
+use Rattle.octets.proofs.has_room.Tie as tie
 
 returns : tie.Need-returns
 returns c =
