@@ -135,11 +135,15 @@ P9 edition =
       reply = radiotap (given (record { places = 16 ∷ 24 ∷ []; ending = ended }));
     }
 
--- P10: word 0x00004002, length 12, in edition 1 and in edition 2
-abbrev pub P10 : Example
-P10 =
+-- edition 1, and edition 0, which asks for it
+abbrev pub firstEditions : List ℕ
+firstEditions = 1 ∷ 0 ∷ []
+
+-- P10: word 0x00004002, length 12, in an edition that asks for edition 1, and in edition 2
+abbrev pub P10 : (edition : ℕ) → Example
+P10 edition =
     record {
-      question = asRadiotap 1 (oneWord 12 0x02 0x40);
+      question = asRadiotap edition (oneWord 12 0x02 0x40);
       reply = radiotap (given (record { places = 8 ∷ []; ending = stopped 0 14 }));
     }
 
@@ -150,14 +154,14 @@ P10′ =
       reply = radiotap (given (record { places = 8 ∷ 10 ∷ []; ending = ended }));
     }
 
--- P11: P10 with length 11, in edition 2 and in edition 1
+-- P11: P10 with length 11, in edition 2, and in an edition that asks for edition 1
 abbrev pub P11 : Example
 P11 = record { question = asRadiotap 2 (oneWord 11 0x02 0x40); reply = radiotap (refused 12 10) }
 
-abbrev pub P11′ : Example
-P11′ =
+abbrev pub P11′ : (edition : ℕ) → Example
+P11′ edition =
     record {
-      question = asRadiotap 1 (oneWord 11 0x02 0x40);
+      question = asRadiotap edition (oneWord 11 0x02 0x40);
       reply = radiotap (given (record { places = 8 ∷ []; ending = stopped 0 14 }));
     }
 
@@ -169,12 +173,13 @@ P12 = record { question = asLe (40 ∷ replicate 13 0x00); reply = le (refused 8
 abbrev pub P13 : Example
 P13 = record { question = asLe (replicate 8 0x00 ++ (0x00 ∷ 0xc0 ∷ replicate 4 0x00)); reply = le (refused 8 8) }
 
--- P8 and P9 in every served edition
+-- P8 and P9 in every served edition, P10 and P11 in edition 0 too
 abbrev pub examples : List Example
 examples =
     (P1 ∷ P2 ∷ P3 ∷ P4 ∷ P5 ∷ P6 ∷ P7 ∷ [])
     ++ (map P8 servedEditions
-    ++ (map P9 servedEditions ++ (P10 ∷ P10′ ∷ P11 ∷ P11′ ∷ P12 ∷ P13 ∷ [])))
+    ++ (map P9 servedEditions
+    ++ (map P10 firstEditions ++ (P10′ ∷ P11 ∷ (map P11′ firstEditions ++ (P12 ∷ P13 ∷ []))))))
 
 -- the rules answer every example as the paper does
 abbrev pub Shown : Type 0

@@ -10,7 +10,7 @@ use Rattle.radiotap_rules.specs.Rules.{Rules, editionTaken}
 use Rattle.radiotap_rules.specs.Reading.{Reading, refusedBefore, refusedAtField, read, reading, fieldOf}
 use Rattle.radiotap_rules.specs.Steps.{headAt, Met, refusedStep, stepOf, shownBy}
 use Rattle.radiotap_rules.specs.Answers.{Summary, summary}
-use Rattle.radiotap_reader.specs.Reader.{firstPlace, placeBy, freshPlace, answerAt, movedBy, movedOn, movedTimes}
+use Rattle.radiotap_reader.specs.Reader.{firstPlace, placeBy, freshPlace, answerAt, movedBy, movedOn, movedTimes, answerAfter}
 use Rattle.radiotap_reader.proofs.Readers.{reader-answers}
 
 module _ (rules : Rules) (edition : ℕ) (s : List ℕ) where
@@ -59,12 +59,14 @@ module _ (rules : Rules) (edition : ℕ) (s : List ℕ) where
       ∙ ap (λ (k : ℕ). movedTimes rules edition s k place) one
       ∙ left
 
-  -- where no move is left, the answer is that of the field number
+  -- where no move is left, the answer is the one after all moves
   pub moves-over : (moves moved : ℕ) → moves ≤ moved → (place : Answer Cursor)
       → movedTimes rules edition s (moves - moved) place ≡ movedTimes rules edition s moves (freshPlace rules edition s)
-      → {m : Met} → m ≡ answerAt rules edition s place → shownBy m ≡ fieldOf (reading rules edition s) moves
+      → {m : Met} → m ≡ answerAt rules edition s place → m ≡ answerAfter rules edition s moves
   moves-over moves moved all place left answers =
       let none : 0 ≡ moves - moved = omega arith in
-      ap shownBy answers
-      ∙ ap (λ (x : Answer Cursor). shownBy (answerAt rules edition s x)) (ap (λ (k : ℕ). movedTimes rules edition s k place) none ∙ left)
-      ∙ reader-answers rules edition s moves
+      answers ∙ ap (answerAt rules edition s) (ap (λ (k : ℕ). movedTimes rules edition s k place) none ∙ left)
+
+  -- the answer after so many moves shows what the field number does
+  pub shown-after : (moves : ℕ) {m : Met} → m ≡ answerAfter rules edition s moves → shownBy m ≡ fieldOf (reading rules edition s) moves
+  shown-after moves answers = ap shownBy answers ∙ reader-answers rules edition s moves

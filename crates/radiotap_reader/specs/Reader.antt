@@ -44,9 +44,12 @@ abbrev pub movedTimes : Rules → (edition : ℕ) → List ℕ → (k : ℕ) →
 movedTimes rules edition s zero place = place
 movedTimes rules edition s (suc k) place = movedTimes rules edition s k (movedOn rules edition s place)
 
+-- what a fresh reader answers after so many moves
+abbrev pub answerAfter : Rules → (edition : ℕ) → List ℕ → (k : ℕ) → Met
+answerAfter rules edition s k = answerAt rules edition s (movedTimes rules edition s k (freshPlace rules edition s))
+
 -- a fresh reader stepped k times answers field number k of the reading: the field, then the end or the named stop for
 -- ever; over refused octets the refusal at every step. Proof: proofs/Readers.antt.
 abbrev pub ReaderAnswers : Type 0
 ReaderAnswers = (rules : Rules) (edition : ℕ) (s : List ℕ) (k : ℕ)
-    → shownBy (answerAt rules edition s (movedTimes rules edition s k (freshPlace rules edition s)))
-    ≡ fieldOf (reading rules edition s) k
+    → shownBy (answerAfter rules edition s k) ≡ fieldOf (reading rules edition s) k

@@ -5,7 +5,7 @@ ghost use Rattle.radiotap_rules.specs.Table.{ourRules};
 ghost use Rattle.radiotap_rules.specs.Reading.{reading, fieldOf};
 ghost use Rattle.radiotap_rules.specs.Steps.{headAt, shownBy};
 ghost use Rattle.radiotap_step.specs.Says.{stepSays, StepSized};
-ghost use Rattle.radiotap_reader.specs.Reader.{firstPlace, freshPlace, answerAt, movedOn};
+ghost use Rattle.radiotap_reader.specs.Reader.{firstPlace, freshPlace, answerAt, movedOn, answerAfter};
 ghost use Rattle.radiotap_reader.specs.Says.{placeSays};
 use radiotap::ReadAnswer;
 use radiotap_head::HeadAnswer;
@@ -134,6 +134,7 @@ fn asked(header: &[u8], edition: u32, place: Place) -> Step
 
 // What a fresh reader answers after so many moves: field number `moves` of the reading, then the end or the named stop.
 pub fn after_moves(header: &[u8], edition: u32, moves: usize) -> Step
+    ensures { λ r. ⌜ stepSays (now (header .entry)) r ≡ answerAfter ourRules edition (now (header .entry)) moves ⌝ }
     ensures { λ r. ⌜ shownBy (stepSays (now (header .entry)) r) ≡ fieldOf (reading ourRules edition (now (header .entry))) moves ⌝ }
     ensures { λ r. ⌜ StepSized r ⌝ }
 {

@@ -7,7 +7,7 @@ use denote.Ref.{now}
 use Rattle.radiotap_rules.specs.Table.{ourRules}
 use Rattle.radiotap_reader.specs.Reader.{freshPlace, movedTimes}
 use Rattle.radiotap_reader.specs.Says.{placeSays}
-use Rattle.radiotap_reader.proofs.PlaceLaws.{moves-on, moves-over}
+use Rattle.radiotap_reader.proofs.PlaceLaws.{moves-on, moves-over, shown-after}
 use Rattle.radiotap_reader.proofs.after_moves.Statement.{statement}
 use Rattle.radiotap_reader.proofs.after_moves.Tie as tie
 
@@ -49,9 +49,12 @@ asked-requires c κs = tt
 returns : tie.Need-returns Inv-loop μ-loop
 returns c =
     let a = c .before .before .before .before .before .args in
-    let l = c .before .before .loop in (
-      moves-over ourRules (a .edition) (now (a .header)) (a .moves) (l .moved) (c .before .loop-test .left) (placeSays (l .place)) (l .inv) (c .asked .ensures .0),
-      c .asked .ensures .1,
+    let l = c .before .before .loop in
+    let answers =
+    moves-over ourRules (a .edition) (now (a .header)) (a .moves) (l .moved) (c .before .loop-test .left) (placeSays (l .place)) (l .inv) (c .asked .ensures .0)
+    in (
+      answers,
+      (shown-after ourRules (a .edition) (now (a .header)) (a .moves) answers, c .asked .ensures .1),
     )
 
 pub after-moves-spec : {M : Type 1} → statement M
