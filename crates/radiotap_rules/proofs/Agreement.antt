@@ -2,41 +2,34 @@
 -- Assumes nothing.
 use Prim.Native.Nat.{ℕ, zero, suc, _+_, _≤_, _<_}
 use mathlib.Core.Path.{_≡_, refl, ap, _∙_, subst₂}
-use mathlib.Core.Bool.{Bool, true, false, cond, _&&_}
+use mathlib.Core.Bool.{Bool, true, false, cond}
 use mathlib.Core.Logic.{inl, inr}
 use mathlib.Core.List.{List, [], _∷_, _++_}
 use native.Mathlib.Omega.{arith}
 use native.Mathlib.Decide.{decLt}
 use lib.ListN.{length}
-use lib.Dec.{leb}
-use borrow.Author.Tests.{leb-true, le-leb}
-use Rattle.radiotap_rules.specs.Rules.{Row, Rules, rowOf, knows, editionTaken, served}
+use borrow.Author.Tests.{leb-true}
+use Rattle.radiotap_rules.specs.Rules.{Row, Rules, rowOf, knows, editionTaken}
 use Rattle.radiotap_rules.specs.Reading.{wordAt, bitAt, Meaning, nothing, unknownHere, field, meaning, Field, Ending, ended, stopped, Walk, refusedAt, shown, withField, onField, onMeaning, fieldsFrom, Reading, refusedBefore, refusedAtField, read, frameOf, readWalk, reading, noField, nth}
 use Rattle.radiotap_rules.proofs.Walks.{fieldAt, on-field, by-meaning, by-walks}
+use Rattle.radiotap_rules.proofs.Nesting.{taken-served, knows-more}
 use Rattle.radiotap_rules.specs.Table.{ourRules}
-use Rattle.radiotap_rules.specs.Editions.{Older, NotAfter, Shows, Agree, Demand3}
+use Rattle.radiotap_rules.specs.Editions.{NotAfter, Shows, Agree, Demand3, OursAgree}
 
 -- a newer edition knows what an older one knows
-knows-more : (rules : Rules) (older newer n : ℕ) → older ≤ newer → knows rules older n ≡ true → knows rules newer n ≡ true
-knows-more rules older newer n l = go (leb 1 first)
-  where
-    first : ℕ
-    first = rowOf rules n .first
-
-    go : (t : Bool) → (t && leb first older) ≡ true → (t && leb first newer) ≡ true
-    go true e = let h : first ≤ older = leb-true first older e in le-leb first newer (omega arith)
-    go false e = e
+abbrev Grows : Rules → (older newer : ℕ) → Type 0
+Grows rules older newer = (n : ℕ) → knows rules older n ≡ true → knows rules newer n ≡ true
 
 -- how what a position means to an older edition stands to what it means to a newer one
 data Means : Meaning → Meaning → Type 0 where
   alike : {m : Meaning} → Means m m
   newly : {r : Row} → Means unknownHere (field r)
 
-means : (rules : Rules) (older newer : ℕ) (words : List ℕ) (q : ℕ) → older ≤ newer
+means : (rules : Rules) (older newer : ℕ) (words : List ℕ) (q : ℕ) → Grows rules older newer
     → Means (meaning rules older words q) (meaning rules newer words q)
-means rules older newer words q l =
+means rules older newer words q grows =
     by-meaning words q (λ meaningIn. Means (meaningIn rules older) (meaningIn rules newer)) alike alike
-    (known (knows rules older (bitAt q)) (knows rules newer (bitAt q)) (knows-more rules older newer (bitAt q) l))
+    (known (knows rules older (bitAt q)) (knows rules newer (bitAt q)) (grows (bitAt q)))
   where
     known : (k k′ : Bool) → (k ≡ true → k′ ≡ true)
         → Means (cond k (field (rowOf rules (bitAt q))) unknownHere) (cond k′ (field (rowOf rules (bitAt q))) unknownHere)
@@ -128,12 +121,12 @@ module _ (rules : Rules) (s : List ℕ) (size : ℕ) (words : List ℕ) where
       none-before-meaning s size q at (meaning rules edition words q) (fieldsFrom rules edition s size words left (suc q))
       (λ at. none-before-back q (fieldsFrom rules edition s size words left (suc q) at) (none-before edition left (suc q) at))
 
-  beside : (older newer : ℕ) → older ≤ newer → (left q at : ℕ)
+  beside : (older newer : ℕ) → Grows rules older newer → (left q at : ℕ)
       → Beside (fieldsFrom rules older s size words left q at) (fieldsFrom rules newer s size words left q at)
-  beside older newer l zero q at = both-end ended
-  beside older newer l (suc left) q at =
+  beside older newer grows zero q at = both-end ended
+  beside older newer grows (suc left) q at =
       beside-meaning s size q at (fieldsFrom rules older s size words left (suc q)) (fieldsFrom rules newer s size words left (suc q))
-      (beside older newer l left (suc q)) (means rules older newer words q l) (none-before newer (suc left) q at)
+      (beside older newer grows left (suc q)) (means rules older newer words q grows) (none-before newer (suc left) q at)
 
 -- what field numbers answer, where the older's fields are the first of the newer's
 numbers-same : (fs rest : List Field) (e e′ : Ending) (k : ℕ) → k < length fs → nth fs e k ≡ nth (fs ++ rest) e′ k
@@ -204,11 +197,11 @@ agree-walks s size (stopsBy {fs} {w} {b} {w′} {b′} {p} h) =
 -- demand 3: an older and a newer served edition agree on every input
 pub demand-3 : Demand3
 unfolding reading
-demand-3 rules older newer s ok servedOlder servedNewer l =
+demand-3 rules older newer s ok nests servedOlder servedNewer l =
     rw (servedOlder, servedNewer)
     (by-walks s (λ readIn. Agree (readIn rules o) (readIn rules n))
     agree-before
-    (λ size h words left q at. agree-walks s size (beside rules s size words o n l left q at)))
+    (λ size h words left q at. agree-walks s size (beside rules s size words o n grows left q at)))
   where
     o : ℕ
     o = editionTaken (rules .readingDefault) older
@@ -216,7 +209,9 @@ demand-3 rules older newer s ok servedOlder servedNewer l =
     n : ℕ
     n = editionTaken (rules .readingDefault) newer
 
--- demand 3 for the table of document 01, which passes the test
-pub agree-ours : (older newer : ℕ) (s : List ℕ) → served ourRules older ≡ true → served ourRules newer ≡ true
-    → Older ourRules older newer → Agree (reading ourRules older s) (reading ourRules newer s)
-agree-ours older newer s = demand-3 ourRules older newer s refl
+    grows : Grows rules o n
+    grows k = knows-more rules o n k nests (leb-true n (rules .newest) (taken-served rules newer ok servedNewer .0)) l
+
+-- demand 3 for the table of document 01, which passes both tests
+pub agree-ours : OursAgree
+agree-ours older newer s = demand-3 ourRules older newer s refl refl

@@ -10,19 +10,20 @@ use native.Mathlib.Nat.{sub-self}
 use lib.ListN.{length, getD, take, drop, replicate, length-append, length-replicate, getD-replicate}
 use lib.Seq.{take-at, drop-at, take-add, drop-drop, getD-take, getD-drop, ext-getD}
 use lib.Dec.{leb, ltb, eqb}
-use borrow.Author.Tests.{leb-true, le-leb, eqb-true, eq-eqb, ne-eqb}
+use borrow.Author.Tests.{leb-true, le-leb, eqb-true, eq-eqb}
 use Rattle.refusals.specs.Refusals.{Answer, refused, given, shortHeader}
 use Rattle.octets.specs.Numbers.{little, octetsOf, octetsAt, numberAt, Octets}
 use Rattle.octets.specs.Parts.{part, splice}
 use Rattle.octets.proofs.Laws.{write-after-read, range, octets-append, octets-take, octets-drop}
 use Rattle.octets.proofs.PartLaws.{length-part, octets-part}
-use Rattle.radiotap_rules.specs.Rules.{Rules, rowsOk, noneKnows, tableOk, editionTaken, served}
+use Rattle.radiotap_rules.specs.Rules.{Rules, tableOk, editionTaken, served}
 use Rattle.radiotap_rules.specs.Reading.{fixedLength, lengthIn, fixedHeader, presenceWords, aligned, Field, ended, Walk, shown, fieldsOf}
 use Rattle.radiotap_rules.specs.Writing.{writable, Planned, plan, summed, laid, headerOctets, writing, written}
 use Rattle.radiotap_rules.specs.Rewriting.{Writable, joined, GapsZero, lastEnd, OneWord, RewritesItself}
 use Rattle.radiotap_rules.proofs.Walks.{chosen, read-served, read-shown}
 use Rattle.radiotap_rules.proofs.Words.{words-at, last-calls-none}
 use Rattle.radiotap_rules.proofs.Unstopped.{walk-writable}
+use Rattle.radiotap_rules.proofs.Nesting.{taken-served}
 use Rattle.radiotap_rules.proofs.Places.{length-inside}
 use Rattle.radiotap_rules.proofs.Planning.{Aligned, aligned-after, plan-aligned, end-after, length-laid, length-header, plannedFields, WalkedTo, walked}
 
@@ -183,33 +184,6 @@ octets-planned s at (p ∷ ps) o =
     let place : ℕ = aligned (p .row .alignment) at in
     octets-append (take (p .row .size) (drop place s)) (joined (plannedFields s (place + p .row .size) ps))
     (octets-take (p .row .size) (drop place s) (octets-drop place s o)) (octets-planned s (place + p .row .size) ps o)
-
--- a table that passes the test serves its reading default
-default-served : (rules : Rules) → tableOk rules ≡ true → (1 ≤ rules .readingDefault) × (rules .readingDefault ≤ rules .newest)
-default-served rules ok = go (rowsOk (rules .newest) (rules .rows)) (noneKnows rules (18 ∷ 29 ∷ 30 ∷ 31 ∷ [])) _ _ ok
-  where
-    go : (a b e f : Bool)
-        → (a && b && leb 1 (rules .readingDefault) && leb (rules .readingDefault) (rules .newest) && e && f) ≡ true
-        → (1 ≤ rules .readingDefault) × (rules .readingDefault ≤ rules .newest)
-    go a b e f h =
-        let low : Bool = leb 1 (rules .readingDefault) in
-        let high : Bool = leb (rules .readingDefault) (rules .newest) in
-        let four = and-eq-true-iff (a && b && low && high) e .0 (and-eq-true-iff (a && b && low && high && e) f .0 h .0) .0 in
-        let three = and-eq-true-iff (a && b && low) high .0 four in
-        (leb-true _ _ (and-eq-true-iff (a && b) low .0 (three .0) .1), leb-true _ _ (three .1))
-
--- what reading takes a served edition for is then served too, and writing takes it for itself
-taken-served : (rules : Rules) (edition : ℕ) → tableOk rules ≡ true → served rules edition ≡ true
-    → let e = editionTaken (rules .readingDefault) edition in
-    (served rules e ≡ true) × (editionTaken (rules .writingDefault) e ≡ e)
-taken-served rules edition ok servedHere = go (eqb edition 0) refl (default-served rules ok)
-  where
-    go : (t : Bool) → eqb edition 0 ≡ t → (1 ≤ rules .readingDefault) × (rules .readingDefault ≤ rules .newest)
-        → (served rules (cond t (rules .readingDefault) edition) ≡ true)
-        × (editionTaken (rules .writingDefault) (cond t (rules .readingDefault) edition) ≡ cond t (rules .readingDefault) edition)
-    go true e default =
-        (le-leb _ _ (default .1), rw (ne-eqb (rules .readingDefault) 0 (λ z. omega (arith, default .0))))
-    go false e default = (servedHere, rw e)
 
 -- the writer's answer and output, where it serves the edition as itself and accepts the word and the values
 module _ (rules : Rules) (edition word : ℕ) (values : List ℕ) (serves : served rules edition ≡ true)

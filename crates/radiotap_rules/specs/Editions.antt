@@ -5,7 +5,8 @@ use mathlib.Core.Bool.{true}
 use mathlib.Core.Logic.{_↔_, _⊎_}
 use mathlib.Core.List.{List, [], _∷_, _++_}
 use lib.ListN.{length}
-use Rattle.radiotap_rules.specs.Rules.{Rules, rowOf, knows, tableOk, editionTaken, served}
+use Rattle.radiotap_rules.specs.Rules.{Rules, rowOf, knows, tableOk, nested, editionTaken, served}
+use Rattle.radiotap_rules.specs.Table.{ourRules}
 use Rattle.radiotap_rules.specs.Reading.{Field, Ending, stopped, Reading, refusedBefore, refusedAtField, read, reading, noField, fieldOf}
 
 -- of two editions, the older by what each is taken for; of two equal ones either is
@@ -57,12 +58,17 @@ pub record Agree (o n : Reading) : Type 0 where
   pub refuses : (word bit place : ℕ) → n ≡ refusedAtField word bit place → (o ≡ refusedAtField word bit place) ⊎ StopsBy o word bit
   pub frame : (fs fs′ : List Field) (e e′ : Ending) (frame frame′ : List ℕ) → o ≡ read fs e frame → n ≡ read fs′ e′ frame′ → frame ≡ frame′
 
--- demand 3, for any rules whose rows pass the test, any octets and any two served editions
+-- demand 3, for any rules that pass the test of a table and whose editions nest, any octets and any two served editions
 abbrev pub Demand3 : Type 0
-Demand3 = (rules : Rules) (older newer : ℕ) (s : List ℕ) → tableOk rules ≡ true → served rules older ≡ true → served rules newer ≡ true
-    → Older rules older newer → Agree (reading rules older s) (reading rules newer s)
+Demand3 = (rules : Rules) (older newer : ℕ) (s : List ℕ) → tableOk rules ≡ true → nested rules ≡ true → served rules older ≡ true
+    → served rules newer ≡ true → Older rules older newer → Agree (reading rules older s) (reading rules newer s)
 
--- two tables agree on what an edition knows: it knows the same field numbers, with the same rows
+-- demand 3 for document 01's table
+abbrev pub OursAgree : Type 0
+OursAgree = (older newer : ℕ) (s : List ℕ) → served ourRules older ≡ true → served ourRules newer ≡ true
+    → Older ourRules older newer → Agree (reading ourRules older s) (reading ourRules newer s)
+
+-- two tables agree on what an edition knows: it knows the fields of the same bits, with the same rows
 pub record SameTable (rules rules′ : Rules) (edition : ℕ) : Type 0 where
   pub known : (n : ℕ) → knows rules edition n ≡ knows rules′ edition n
   pub rows : (n : ℕ) → knows rules edition n ≡ true → rowOf rules n ≡ rowOf rules′ n

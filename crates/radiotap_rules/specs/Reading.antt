@@ -80,15 +80,15 @@ unfoldable pub presenceWords : List ℕ → (size : ℕ) → Answer (List ℕ)
 presenceWords s size = wordsFrom s size 4 (mostWords - 1)
 
 -- a position is a bit of a word: position q is bit q mod 32 of word q div 32. Every word numbers its bits from 0 again,
--- so the field number of a position is its bit.
+-- so the number of its row in the table is its bit.
 abbrev pub wordAt : ℕ → ℕ
 wordAt q = q / wordBits
 
 abbrev pub bitAt : ℕ → ℕ
 bitAt q = q % wordBits
 
-abbrev pub fieldNumber : (words : List ℕ) → ℕ → ℕ
-fieldNumber words q = bitAt q
+abbrev pub rowNumber : (words : List ℕ) → ℕ → ℕ
+rowNumber words q = bitAt q
 
 abbrev pub present : (words : List ℕ) → ℕ → Bool
 present words q = bitSet (getD words (wordAt q) 0) (bitAt q)
@@ -107,7 +107,7 @@ meaning rules edition words q =
     nothing
     (cond (eqb (bitAt q) 30)
     unknownHere
-    (cond (knows rules edition (fieldNumber words q)) (field (rowOf rules (fieldNumber words q))) unknownHere)))
+    (cond (knows rules edition (rowNumber words q)) (field (rowOf rules (rowNumber words q))) unknownHere)))
     nothing
 
 -- the next multiple of an alignment, counted from the header's start

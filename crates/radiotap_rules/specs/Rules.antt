@@ -1,5 +1,5 @@
 -- Document 01, "Radiotap": the table of fields, as rules that a reading is given.
-use Prim.Native.Nat.{ℕ}
+use Prim.Native.Nat.{ℕ, zero, suc}
 use mathlib.Core.Bool.{Bool, true, cond, not, _&&_, _||_}
 use mathlib.Core.List.{List, [], _∷_}
 use lib.ListN.{getD}
@@ -18,20 +18,37 @@ row a s f = record { alignment = a; size = s; first = f }
 abbrev pub unknown : Row
 unknown = row 0 0 0
 
--- the rules: the rows by field number, the editions that edition 0 asks for when reading and when writing, the newest
+-- the rules: the rows by bit, the editions that edition 0 asks for when reading and when writing, the newest
 pub record Rules : Type 0 where
   pub rows : List Row
   pub readingDefault : ℕ
   pub writingDefault : ℕ
   pub newest : ℕ
 
--- the row of a field number; past the table it is unknown
+-- the row of a bit; past the table it is unknown
 abbrev pub rowOf : Rules → ℕ → Row
 rowOf rules n = getD (rules .rows) n unknown
 
--- whether an edition knows a field number
+-- whether an edition knows the field of a row
+abbrev pub rowKnown : (edition : ℕ) → Row → Bool
+rowKnown edition r = leb 1 (r .first) && leb (r .first) edition
+
+-- whether an edition knows the field of a bit
 abbrev pub knows : Rules → (edition n : ℕ) → Bool
-knows rules edition n = leb 1 (rowOf rules n .first) && leb (rowOf rules n .first) edition
+knows rules edition n = rowKnown edition (rowOf rules n)
+
+-- the test of one row: up to the newest edition, each edition knows the field if the one before does
+abbrev pub rowNests : (newest : ℕ) → Row → Bool
+rowNests zero r = true
+rowNests (suc e) r = (not (rowKnown e r) || rowKnown (suc e) r) && rowNests e r
+
+abbrev pub rowsNest : (newest : ℕ) → List Row → Bool
+rowsNest newest [] = true
+rowsNest newest (r ∷ rs) = rowNests newest r && rowsNest newest rs
+
+-- the one test over the rows by which editions nest
+abbrev pub nested : Rules → Bool
+nested rules = rowsNest (rules .newest) (rules .rows)
 
 -- an alignment is 1, 2, 4 or 8
 abbrev pub alignmentOk : ℕ → Bool
@@ -45,7 +62,7 @@ abbrev pub rowsOk : (newest : ℕ) → List Row → Bool
 rowsOk newest [] = true
 rowsOk newest (r ∷ rs) = rowOk newest r && rowsOk newest rs
 
--- field numbers that no edition knows
+-- bits whose field no edition knows
 abbrev pub noneKnows : Rules → List ℕ → Bool
 noneKnows rules [] = true
 noneKnows rules (n ∷ ns) = not (knows rules (rules .newest) n) && noneKnows rules ns

@@ -18,12 +18,13 @@ unknownBit = 18
 abbrev pub valuesLength : ℕ
 valuesLength = 19
 
--- whether a position of the presence word can be written: its bit is clear, or it is a field that the edition knows
+-- whether a position means a field that the edition knows
 abbrev pub isField : Meaning → Bool
 isField nothing = false
 isField unknownHere = false
 isField (field r) = true
 
+-- whether a position of the presence word can be written: its bit is clear, or it is a field that the edition knows
 abbrev pub writableAt : Rules → (edition word q : ℕ) → Bool
 writableAt rules edition word q = cond (bitSet word q) (isField (meaning rules edition (word ∷ []) q)) true
 

@@ -7,6 +7,6 @@ use Rattle.radiotap_rules.specs.Rules.{Row, Rules, rowOf}
 abbrev pub numbersOf : Row → List ℕ
 numbersOf r = r .alignment ∷ r .size ∷ r .first ∷ []
 
--- the numbers of the row of a field number
+-- the numbers of the row of a bit
 abbrev pub numbersIn : Rules → (n : ℕ) → List ℕ
 numbersIn rules n = numbersOf (rowOf rules n)
