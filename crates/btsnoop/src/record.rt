@@ -67,7 +67,7 @@ fn judge(left: usize, place: usize, numbers: Numbers) -> RecordAnswer
     }
     let included = numbers.included as usize;
     if left - RECORD_LENGTH < included {
-        return refused(refusals::PACKET, place);
+        return refused(refusals::SHORT_PACKET, place);
     }
     let packet = place + RECORD_LENGTH;
     RecordAnswer::Whole {

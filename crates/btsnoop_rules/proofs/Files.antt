@@ -10,12 +10,13 @@ use lib.ListN.{length}
 use Rattle.refusals.specs.Refusals.{Answer, refused, given}
 use Rattle.tiling.specs.Tiling.{Next, Placed, Ending, ended, more, broken, items, ending, used, onward, walk, Tiles, none, one}
 use Rattle.tiling.specs.Claims.{Forward, Reached}
-use Rattle.tiling.proofs.Walks.{survey-inside, count-is-passed, surveys-add, tiles-walk, never-more as walk-never-more}
+use Rattle.tiling.proofs.Walks.{survey-inside, count-is-passed, surveys-add, tiles-walk, never-more as never-more-walk}
 use Rattle.btsnoop_rules.specs.declared.Numbers.{Numbers}
 use Rattle.btsnoop_rules.specs.Header.{headerLength, headerAt}
 use Rattle.btsnoop_rules.specs.Record.{recordLength, numbersAt, Found, end, whole, recordJudged, recordAt, packetIn, packetAt, Record, stepOn, recordStep, WholeAt}
 use Rattle.btsnoop_rules.specs.File.{surveyAt, fileWalk, File, fileOf, behind, fileAt}
-use Rattle.btsnoop_rules.specs.Claims.{WholeExactly, Filled, AcceptedExactly, Meets, atEnd, onRecord, WalkMeets, SurveysInTurn, SurveyCountsPassed, NeverMore}
+use Rattle.btsnoop_rules.specs.Claims.{FoundExactly, WholeExactly, Filled, AcceptedFile, AcceptedExactly, Meets, atEnd, onRecord, WalkMeets, SurveysInTurn, SurveyCountsPassed, NeverMore, WalkNeverMore}
+use Rattle.btsnoop_rules.proofs.HeaderLaws.{header-long}
 use Rattle.btsnoop_rules.proofs.RecordLaws.{record-below, record-past, record-end, record-short, record-judged, judged-above, judged-past, judged-whole}
 
 -- what the reader answers at a place: a refusal, the end at the input's end, or a record that lies whole
@@ -67,9 +68,8 @@ module _ (s : List ℕ) (p : ℕ) (r : Record) (q : ℕ) where
   unfolding packetAt
   whole-packet w = ap (packetIn s) (whole-read w) ∙ sym (w .packet)
 
-  -- the record step finds exactly the records that lie whole at a place
-  pub whole-exactly : WholeExactly s p r q
-  whole-exactly = record { found = found; lies = lies (seen s p) }
+  found-exactly : FoundExactly s p r q
+  found-exactly = record { found = found; lies = lies (seen s p) }
     where
       found : WholeAt s p r q → recordStep s p ≡ given (Next.whole r q)
       found w = ap (stepOn s) (whole-read w) ∙ rw (← w .packet)
@@ -80,6 +80,10 @@ module _ (s : List ℕ) (p : ℕ) (r : Record) (q : ℕ) where
       lies (lying l a f) e =
           subst₂ (WholeAt s p) (cc) (cc)
           (record { behindHeader = l; numbers = refl; included = a; packet = refl; next = refl; inside = f })
+
+-- the record step finds exactly the records that lie whole at a place
+pub whole-exactly : WholeExactly
+whole-exactly = found-exactly
 
 -- the record step goes forward
 pub forward : (s : List ℕ) → Forward headerLength (length s) (recordStep s)
@@ -149,10 +153,9 @@ module _ (s : List ℕ) where
       subst (Tiles (WholeAt s) headerLength (items (fileWalk s))) (sym here ∙ last)
       (tiles-map (λ p a q. whole-exactly s p a q .lies) (r .tiles))
 
-  -- a file is accepted exactly when its header is valid and whole records fill the rest
-  pub accepted-exactly : AcceptedExactly s
+  accepted-file : AcceptedFile s
   unfolding fileAt
-  accepted-exactly = record { filled = λ file. under file (headerAt s) refl; accepted = accepted }
+  accepted-file = record { filled = λ file. under file (headerAt s) refl; accepted = accepted }
     where
       Fills : File → Type 0
       Fills file = (xs : List (Placed Record)) × Filled s (file .datalink) xs × (length xs ≡ file .records)
@@ -172,8 +175,12 @@ module _ (s : List ℕ) where
           → fileAt s ≡ given (record { datalink = code; records = length xs })
       accepted code xs f = let w = filled-walk f in rw (f .header, w .0, w .1)
 
+-- a file is accepted exactly when its header is valid and whole records fill the rest
+pub accepted-exactly : AcceptedExactly
+accepted-exactly = accepted-file
+
 -- the walk over an accepted file meets exactly its records
-pub walk-meets : (s : List ℕ) (code : ℕ) (xs : List (Placed Record)) → Filled s code xs → WalkMeets s xs
+pub walk-meets : WalkMeets
 walk-meets s code xs f =
     let w = filled-walk s f in
     record { meets = along (f .records) (omega arith) refl; passed = w .0; ends = w .1 }
@@ -203,4 +210,11 @@ pub never-more : NeverMore
 unfolding surveyAt
 never-more s p l h =
     rw (survey-inside headerLength (length s) (recordStep s) (length s) p l h)
-    (walk-never-more headerLength (length s) (recordStep s) (forward s) (length s) p l h (omega arith))
+    (never-more-walk headerLength (length s) (recordStep s) (forward s) (length s) p l h (omega arith))
+
+-- nor does the walk behind a valid header
+pub walk-never-more : WalkNeverMore
+unfolding fileWalk
+walk-never-more s code h =
+    let long : headerLength ≤ length s = header-long s code h in
+    never-more-walk headerLength (length s) (recordStep s) (forward s) (length s) headerLength (omega arith) long (omega arith)

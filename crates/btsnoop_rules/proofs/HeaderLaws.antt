@@ -10,7 +10,7 @@ use borrow.Author.Tests.{le-leb, lt-leb, eq-eqb, ne-eqb, eqb-true}
 use native.Mathlib.Omega.{arith}
 use native.Mathlib.Nat.{lt-of-not-le}
 use native.Mathlib.Decide.{decLe}
-use Rattle.refusals.specs.Refusals.{Answer, refused, given, shortHeader, identification, version, datalink}
+use Rattle.refusals.specs.Refusals.{refused, given, shortHeader, identification, version, datalink}
 use Rattle.octets.specs.Numbers.{Order, big, number, octetsOf, octetsAfter, octetsAt, numberAt, Octets}
 use Rattle.octets.proofs.Laws.{write-after-read}
 use Rattle.btsnoop_rules.specs.Header.{headerLength, identificationOctets, versionNumber, served, sameOctets, headerJudged, headerAt}

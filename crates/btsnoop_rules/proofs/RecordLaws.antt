@@ -6,11 +6,11 @@ use mathlib.Core.List.{List}
 use lib.ListN.{length, List·getD-eq-default}
 use borrow.Author.Tests.{le-leb, lt-leb, eq-eqb, ne-eqb}
 use native.Mathlib.Omega.{arith}
-use Rattle.refusals.specs.Refusals.{Answer, refused, given, shortRecord, includedLength, pastInput, recordPlace}
+use Rattle.refusals.specs.Refusals.{refused, given, shortRecord, includedLength, shortPacket, recordPlace}
 use Rattle.octets.specs.Numbers.{big, number, octetsAfter, numberAt}
 use Rattle.btsnoop_rules.specs.declared.Numbers.{Numbers}
 use Rattle.btsnoop_rules.specs.Header.{headerLength}
-use Rattle.btsnoop_rules.specs.Record.{recordLength, numbersAt, Found, end, whole, recordJudged, recordAt}
+use Rattle.btsnoop_rules.specs.Record.{recordLength, numbersAt, end, whole, recordJudged, recordAt}
 
 module _ (s : List ℕ) (p : ℕ) where
   pub record-below : p < headerLength → recordAt s p ≡ refused recordPlace p
@@ -47,7 +47,7 @@ module _ (left p : ℕ) (n : Numbers) where
   unfolding recordJudged
   judged-above h = rw (lt-leb (n .included) (n .original) h)
 
-  pub judged-past : n .included ≤ n .original → left < recordLength + n .included → recordJudged left p n ≡ refused pastInput p
+  pub judged-past : n .included ≤ n .original → left < recordLength + n .included → recordJudged left p n ≡ refused shortPacket p
   unfolding recordJudged
   judged-past h few = rw (le-leb (n .included) (n .original) h, lt-leb (recordLength + n .included) left few)
 

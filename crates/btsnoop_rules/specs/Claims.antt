@@ -17,21 +17,28 @@ use Rattle.btsnoop_rules.specs.File.{surveyAt, fileWalk, File, fileAt}
 use Rattle.btsnoop_rules.specs.Writing.{headerWriting, headerWritten, recordWriting, recordWritten}
 
 -- the record step finds exactly the records that lie whole at a place
-pub record WholeExactly (s : List ℕ) (p : ℕ) (r : Record) (q : ℕ) : Type 0 where
+pub record FoundExactly (s : List ℕ) (p : ℕ) (r : Record) (q : ℕ) : Type 0 where
   pub found : WholeAt s p r q → recordStep s p ≡ given (Next.whole r q)
   pub lies : recordStep s p ≡ given (Next.whole r q) → WholeAt s p r q
+
+abbrev pub WholeExactly : Type 0
+WholeExactly = (s : List ℕ) (p : ℕ) (r : Record) (q : ℕ) → FoundExactly s p r q
 
 -- a valid header with a code, and whole records that fill the rest
 pub record Filled (s : List ℕ) (code : ℕ) (xs : List (Placed Record)) : Type 0 where
   pub header : headerAt s ≡ given code
   pub records : Tiles (WholeAt s) headerLength xs (length s)
 
--- a file is accepted exactly when its header is valid and whole records fill the rest
-pub record AcceptedExactly (s : List ℕ) : Type 0 where
+-- a file is accepted exactly when its header is valid and whole records fill the rest; so a file of the header alone is
+-- accepted with no records
+pub record AcceptedFile (s : List ℕ) : Type 0 where
   pub filled : (file : File) → fileAt s ≡ given file
       → (xs : List (Placed Record)) × Filled s (file .datalink) xs × (length xs ≡ file .records)
   pub accepted : (code : ℕ) (xs : List (Placed Record)) → Filled s code xs
       → fileAt s ≡ given (record { datalink = code; records = length xs })
+
+abbrev pub AcceptedExactly : Type 0
+AcceptedExactly = (s : List ℕ) → AcceptedFile s
 
 -- walking the record reader from a place finds each of these records, at its place and with its packet's octets, and
 -- then the end
@@ -41,10 +48,13 @@ pub data Meets (s : List ℕ) : ℕ → List (Placed Record) → Type 0 where
       → packetAt s p ≡ r .packet → Meets s q xs → Meets s p (record { place = p; value = r } ∷ xs)
 
 -- the walk over an accepted file meets exactly its records
-pub record WalkMeets (s : List ℕ) (xs : List (Placed Record)) : Type 0 where
+pub record FileMet (s : List ℕ) (xs : List (Placed Record)) : Type 0 where
   pub meets : Meets s headerLength xs
   pub passed : items (fileWalk s) ≡ xs
   pub ends : ending (fileWalk s) ≡ ended (length s)
+
+abbrev pub WalkMeets : Type 0
+WalkMeets = (s : List ℕ) (code : ℕ) (xs : List (Placed Record)) → Filled s code xs → FileMet s xs
 
 -- a record that can be written: its numbers fit their fields, and no packet is above its original length
 pub record Representable (r : Record) : Type 0 where
@@ -137,6 +147,10 @@ pub record SurveyCounts (s : List ℕ) (p n : ℕ) : Type 0 where
 abbrev pub SurveyCountsPassed : Type 0
 SurveyCountsPassed = (s : List ℕ) (p n : ℕ) → headerLength ≤ p → p ≤ length s → SurveyCounts s p n
 
--- a survey allowed as many records as the input has octets never says "more"; so the walk behind a valid header doesn't
+-- a survey allowed as many records as the input has octets never says "more"
 abbrev pub NeverMore : Type 0
 NeverMore = (s : List ℕ) (p : ℕ) → headerLength ≤ p → p ≤ length s → Final (surveyAt s p (length s) .ending)
+
+-- nor does the walk behind a valid header, so that check and listing never give 17
+abbrev pub WalkNeverMore : Type 0
+WalkNeverMore = (s : List ℕ) (code : ℕ) → headerAt s ≡ given code → Final (ending (fileWalk s))

@@ -5,7 +5,7 @@ use mathlib.Core.Bool.{Bool, cond, _&&_}
 use mathlib.Core.List.{List, []}
 use lib.ListN.{length}
 use lib.Dec.{leb, eqb}
-use Rattle.refusals.specs.Refusals.{Answer, refused, given, shortRecord, includedLength, pastInput, recordPlace}
+use Rattle.refusals.specs.Refusals.{Answer, refused, given, shortRecord, includedLength, shortPacket, recordPlace}
 use Rattle.octets.specs.Numbers.{big, numberAt}
 use Rattle.octets.specs.Signed.{signed}
 use Rattle.octets.specs.Parts.{part}
@@ -49,7 +49,7 @@ recordJudged left p n =
     cond (leb (n .included) (n .original))
     (cond (leb (recordLength + n .included) left)
     (given (whole n (p + recordLength) (p + recordLength + n .included)))
-    (refused pastInput p))
+    (refused shortPacket p))
     (refused includedLength (p + 4))
 
 -- whether a record may start at a place: not below 16 and not above the input's length

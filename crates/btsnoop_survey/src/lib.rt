@@ -100,7 +100,7 @@ fn judge(s: &[u8], place: usize) -> Step
     }
     if left - RECORD_LENGTH < included {
         return Step::Refused(Refusal {
-            number: refusals::PACKET,
+            number: refusals::SHORT_PACKET,
             place,
         });
     }

@@ -125,7 +125,7 @@ fn within(packet: usize, values: Values) -> LeAnswer
 {
     if packet < ranges::least_packet(values.flags) {
         return LeAnswer::Refused(Refusal {
-            number: refusals::PACKET,
+            number: refusals::SHORT_PACKET,
             place: HEADER_LENGTH,
         });
     }

@@ -5,7 +5,7 @@ use mathlib.Core.Path.{_≡_, refl}
 use mathlib.Core.List.{List}
 use lib.ListN.{length, drop}
 use borrow.Author.Tests.{lt-ltb, le-ltb, le-leb, lt-leb, eq-eqb, ne-eqb}
-use Rattle.refusals.specs.Refusals.{refused, given, shortHeader, pastInput}
+use Rattle.refusals.specs.Refusals.{refused, given, shortHeader, shortPacket}
 use Rattle.le_rules.specs.declared.Values.{Values}
 use Rattle.le_rules.specs.Flags.{pduType, phy}
 use Rattle.le_rules.specs.Reading.{headerLength, valuesIn, Fault, faultNumber, faultPlace, channelAbove, pduTypeReserved, phyReserved, lastChannel, reservedType, reservedPhy, codedPhy, outOf, within, rangeOf, leastPacket, headerOf, judged, readingOf}
@@ -42,7 +42,7 @@ judged-out-of packet v fault = refl
 
 -- values in range are judged by the packet's length
 pub judged-few : (packet : ℕ) (v : Values) → packet < leastPacket (v .flags)
-    → judged packet v within ≡ refused pastInput headerLength
+    → judged packet v within ≡ refused shortPacket headerLength
 judged-few packet v h = rw (lt-leb (leastPacket (v .flags)) packet h)
 
 pub judged-given : (packet : ℕ) (v : Values) → leastPacket (v .flags) ≤ packet → judged packet v within ≡ given (headerOf v)

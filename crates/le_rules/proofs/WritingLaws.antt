@@ -6,7 +6,7 @@ use mathlib.Core.Bool.{true}
 use mathlib.Core.List.{List}
 use lib.ListN.{length}
 use borrow.Author.Tests.{le-leb, lt-leb}
-use Rattle.refusals.specs.Refusals.{Answer, refused, given, pastInput, noRoom, afterWrite}
+use Rattle.refusals.specs.Refusals.{Answer, refused, given, shortPacket, noRoom, afterWrite}
 use Rattle.octets.specs.Parts.{splice}
 use Rattle.le_rules.specs.declared.Values.{Values}
 use Rattle.le_rules.specs.Reading.{headerLength, Fault, faultNumber, Range, outOf, within, rangeOf, leastPacket, packetTest}
@@ -33,9 +33,9 @@ module _ (out : List ℕ) (at : ℕ) (v : Values) (packet : List ℕ) where
   writing-out-of fault e = outcome (refused (faultNumber fault) 0) (judged-first (outOf fault) e)
 
   module _ (r : rangeOf (v .channel) (v .flags) ≡ within) where
-    pub writing-few : length packet < leastPacket (v .flags) → Outcome (refused pastInput 0)
+    pub writing-few : length packet < leastPacket (v .flags) → Outcome (refused shortPacket 0)
     writing-few h =
-        outcome (refused pastInput 0) (judged-first within r ∙ rw (lt-leb (leastPacket (v .flags)) (length packet) h))
+        outcome (refused shortPacket 0) (judged-first within r ∙ rw (lt-leb (leastPacket (v .flags)) (length packet) h))
 
     -- the place after what is written
     abbrev next : ℕ

@@ -4,7 +4,7 @@ use mathlib.Core.Bool.{Bool, cond}
 use mathlib.Core.List.{List, []}
 use lib.ListN.{length, getD, drop}
 use lib.Dec.{leb, ltb, eqb}
-use Rattle.refusals.specs.Refusals.{Answer, refused, given, shortHeader, pastInput}
+use Rattle.refusals.specs.Refusals.{Answer, refused, given, shortHeader, shortPacket}
 use Rattle.octets.specs.Numbers.{little, numberAt}
 use Rattle.octets.specs.Signed.{signed}
 use Rattle.le_rules.specs.declared.Values.{Values}
@@ -87,7 +87,7 @@ headerOf v = record { values = v; told = toldBy (v .flags) }
 abbrev pub judged : (packet : ℕ) → Values → Range → Answer Header
 judged packet v (outOf fault) = refused (faultNumber fault) (faultPlace fault)
 judged packet v within =
-    cond (packetTest (v .flags) packet) (given (headerOf v)) (refused pastInput headerLength)
+    cond (packetTest (v .flags) packet) (given (headerOf v)) (refused shortPacket headerLength)
 
 -- the reading, in the order 1, channel, PDU type, PHY, 7
 unfoldable pub readingOf : List ℕ → Answer Header

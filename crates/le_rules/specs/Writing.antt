@@ -3,7 +3,7 @@ use Prim.Native.Nat.{ℕ, _+_}
 use mathlib.Core.Bool.{cond}
 use mathlib.Core.List.{List, _∷_, _++_}
 use lib.ListN.{length}
-use Rattle.refusals.specs.Refusals.{Answer, refused, given, afterWrite, pastInput, noRoom}
+use Rattle.refusals.specs.Refusals.{Answer, refused, given, afterWrite, shortPacket, noRoom}
 use Rattle.octets.specs.Numbers.{little, octetsOf}
 use Rattle.octets.specs.Signed.{unsigned}
 use Rattle.octets.specs.Parts.{splice, hasRoom}
@@ -30,7 +30,7 @@ writingJudged size at v packet within =
     (cond (hasRoom size at (headerLength + length packet))
     (given (at + (headerLength + length packet)))
     (refused noRoom 0))
-    (refused pastInput 0)
+    (refused shortPacket 0)
 
 -- what writing answers, in the order channel, PDU type, PHY, 7, 13, all at place 0: the place after what was written
 unfoldable pub writing : (size at : ℕ) → Values → List ℕ → Answer ℕ

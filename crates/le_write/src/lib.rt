@@ -42,7 +42,7 @@ fn within(out: &mut [u8], place: usize, values: Values, packet: &[u8]) -> WriteA
     ensures { λ _. ⌜ now (out .exit) ≡ written (now (out .entry)) place values (now (packet .entry)) ⌝ }
 {
     if packet.len() < le_header::ranges::least_packet(values.flags) {
-        return refusals::write_refused(refusals::PACKET);
+        return refusals::write_refused(refusals::SHORT_PACKET);
     }
     let size = HEADER_LENGTH + packet.len();
     if !octets::has_room(out.len(), place, size) {

@@ -1,8 +1,8 @@
 -- The laws of numbers in octets, once over the width and the order.
 -- Assumes nothing.
-use Prim.Native.Nat.{ℕ, zero, suc, _+_, _*_, _/_, _%_, _^_, _<_, _≤_}
+use Prim.Native.Nat.{ℕ, zero, suc, _+_, _*_, _/_, _%_, _^_, _<_}
 use mathlib.Core.Path.{_≡_, refl, sym, ap, _∙_}
-use mathlib.Core.List.{List, [], _∷_, _++_, reverse, reverseAux, reverse-reverse}
+use mathlib.Core.List.{List, [], _∷_, _++_, reverseAux, reverse-reverse}
 use native.Mathlib.Omega.{arith}
 use native.Mathlib.Nat.{pow-succ'}
 use lib.ListN.{length, getD, take, drop, length-reverse}
@@ -97,7 +97,7 @@ pub range : Range
 unfolding number
 range o s h = rw (← length-ordered o s) (below (ordered o s) (octets-ordered o s h))
 
-pub written : (o : Order) (w n : ℕ) → Written o w n
+pub written : Written
 unfolding octetsOf
 written o w n =
     record {

@@ -1,20 +1,20 @@
 -- Two's complement, once over the width: the machine's signed reading is `signed`, and a negative number's bits.
 -- Assumes nothing.
-use Prim.Native.Nat.{ℕ, zero, suc, _-_, _+_, _*_, _^_, _<_, _≤_}
-use mathlib.Core.Path.{_≡_, refl, sym, ap, _∙_}
+use Prim.Native.Nat.{ℕ, suc, _-_, _*_, _^_, _<_, _≤_}
+use mathlib.Core.Path.{_≡_, refl, ap, _∙_}
 use mathlib.Core.Bool.{Bool, true, false, cond}
 use native.Mathlib.Omega.{arith}
-use lib.IntN.{ℤ, pos, negsuc, natAbs}
-use lib.Signed.{mag, ltZ, nonNeg}
-use lib.Dec.{T, ltb, lit≤}
+use lib.IntN.{ℤ, pos, negsuc}
+use lib.Signed.{mag, ltZ}
+use lib.Dec.{ltb, lit≤}
 use lib.Pow.{pow-mono}
 use native.Mathlib.Nat.{lt-of-lt-of-le, pow-succ'}
 use borrow.Author.Tests.{lt-ltb, le-ltb, ltb-true, ltb-false}
 use mir.Syntax.{Width, w8, w16, w32, w64, w128}
-use mir.Val.{bits, hbits, SFits, Fits, toZ, ofZ, sel}
+use mir.Val.{bits, hbits, SFits, toZ, ofZ, sel}
 use mir.Facts.{toZ-pos, toZ-ofZ}
 use Rattle.octets.specs.Signed.{signed, unsigned}
-use Rattle.octets.specs.Claims.{TwosComplement}
+use Rattle.octets.specs.Claims.{TwosComplementAt, TwosComplement}
 
 sel-cond : (t : Bool) (x y : ℤ) → sel t x y ≡ cond t x y
 sel-cond true x y = refl
@@ -111,12 +111,15 @@ module _ (b : ℕ) where
   bits-fit (pos n) h = omega (arith, half, whole)
   bits-fit (negsuc k) h = omega (arith, half, whole)
 
-  pub twos-complement : TwosComplement (suc b)
+  twos-complement-at : TwosComplementAt (suc b)
   unfolding signed
-  twos-complement =
+  twos-complement-at =
       record {
         toBits = λ n h. to-bits n h (ltb n (2 ^ (suc b - 1)));
         fromBits = from-bits;
         range = λ n h. in-range n h (ltb n (2 ^ (suc b - 1))) refl;
         fits = bits-fit;
       }
+
+pub twos-complement : TwosComplement
+twos-complement = twos-complement-at

@@ -1,5 +1,5 @@
--- The laws of numbers in octets, each once over the width and the order. Proofs: proofs/Laws.antt.
-use Prim.Native.Nat.{ℕ, _<_, _^_, _-_}
+-- The laws of numbers in octets, each once over the width and the order. Proofs: proofs/Laws.antt, Signs.antt.
+use Prim.Native.Nat.{ℕ, suc, _<_, _^_, _-_}
 use mathlib.Core.Path.{_≡_}
 use mathlib.Core.List.{List}
 use lib.ListN.{length}
@@ -21,13 +21,19 @@ abbrev pub Range : Type 0
 Range = (o : Order) (s : List ℕ) → Octets s → number o s < 256 ^ length s
 
 -- the octets of a number are as many as the width, and octets
-pub record Written (o : Order) (w n : ℕ) : Type 0 where
+pub record WrittenOctets (o : Order) (w n : ℕ) : Type 0 where
   pub long : length (octetsOf o w n) ≡ w
   pub octets : Octets (octetsOf o w n)
 
+abbrev pub Written : Type 0
+Written = (o : Order) (w n : ℕ) → WrittenOctets o w n
+
 -- two's complement at any number of bits from 1 on: the bits come back, and so does the number
-pub record TwosComplement (bits : ℕ) : Type 0 where
+pub record TwosComplementAt (bits : ℕ) : Type 0 where
   pub toBits : (n : ℕ) → n < 2 ^ bits → unsigned bits (signed bits n) ≡ n
   pub fromBits : (z : ℤ) → mag z < 2 ^ (bits - 1) → signed bits (unsigned bits z) ≡ z
   pub range : (n : ℕ) → n < 2 ^ bits → mag (signed bits n) < 2 ^ (bits - 1)
   pub fits : (z : ℤ) → mag z < 2 ^ (bits - 1) → unsigned bits z < 2 ^ bits
+
+abbrev pub TwosComplement : Type 0
+TwosComplement = (b : ℕ) → TwosComplementAt (suc b)

@@ -19,7 +19,7 @@ use Rattle.octets.proofs.PartLaws.{length-part, octets-part}
 use Rattle.radiotap_rules.specs.Rules.{Rules, tableOk, editionTaken, served}
 use Rattle.radiotap_rules.specs.Reading.{fixedLength, lengthIn, fixedHeader, presenceWords, aligned, Field, ended, Walk, shown, fieldsOf}
 use Rattle.radiotap_rules.specs.Writing.{writable, Planned, plan, summed, laid, headerOctets, writing, written}
-use Rattle.radiotap_rules.specs.Rewriting.{Writable, joined, GapsZero, lastEnd, OneWord, RewritesItself}
+use Rattle.radiotap_rules.specs.Rewriting.{Writable, joined, lastEnd, endOf, GapsZero, OneWord, RewritesItself}
 use Rattle.radiotap_rules.proofs.Walks.{chosen, read-served, read-shown}
 use Rattle.radiotap_rules.proofs.Words.{words-at, last-calls-none}
 use Rattle.radiotap_rules.proofs.Unstopped.{walk-writable}
@@ -93,7 +93,7 @@ module _ (s : List ℕ) where
 
   -- laid from a place on, they are the input's octets there exactly if its gaps are 0
   laid-own : (at : ℕ) (ps : List Planned) → Aligned ps → lastEnd at ps ≤ length s
-      → (laid ps at (joined (plannedFields s at ps)) ≡ part s at (lastEnd at ps - at)) ↔ GapsZero s at ps
+      → (laid ps at (joined (plannedFields s at ps)) ≡ part s at (lastEnd at ps - at)) ↔ GapsZero s at (plannedFields s at ps)
   unfolding part
   laid-own at [] a h = (λ e. tt, λ g. rw (sub-self at))
   laid-own at (p ∷ ps) a h =
@@ -118,10 +118,21 @@ module _ (s : List ℕ) where
       ∙ ap (λ (l : List ℕ). gap ++ l) (part-split s place next end (omega arith) ends ∙ rw sized) in
       let same = same-middle fill gap value (laid ps next values) (part s next (end - next)) fills in
       let zeros = gap-zero s at place after (omega arith) in
+      let Behind : ℕ → Type 0 = λ (k : ℕ). GapsZero s (place + k) (plannedFields s next ps) in
       let rest = laid-own next ps (a .1) h in (
-        λ e. let both = same .0 (sym left ∙ e ∙ right) in (zeros .0 (both .0), rest .0 (both .1)),
-        λ g. left ∙ same .1 (zeros .1 (g .0), rest .1 (g .1)) ∙ sym right,
+        λ e. let both = same .0 (sym left ∙ e ∙ right) in (zeros .0 (both .0), subst Behind (sym long) (rest .0 (both .1))),
+        λ g. left ∙ same .1 (zeros .1 (g .0), rest .1 (subst Behind long (g .1))) ∙ sym right,
       )
+
+  -- the last of the fields that an input holds ends where the last planned one does
+  planned-end : (at : ℕ) (ps : List Planned) → Aligned ps → lastEnd at ps ≤ length s → endOf at (plannedFields s at ps) ≡ lastEnd at ps
+  planned-end at [] a h = refl
+  planned-end at (p ∷ ps) a h =
+      let place : ℕ = aligned (p .row .alignment) at in
+      let size : ℕ = p .row .size in
+      let inside : place + size ≤ length s = omega (arith, end-after (place + size) ps (a .1)) in
+      ap (λ (k : ℕ). endOf (place + k) (plannedFields s (place + size) ps)) (length-part s place size inside)
+      ∙ planned-end (place + size) ps (a .1) h
 
 -- what a fixed header that is accepted holds
 record Fixed (s : List ℕ) (size : ℕ) : Type 0 where
@@ -254,8 +265,8 @@ module _ (rules : Rules) (edition : ℕ) (s : List ℕ) (size word : ℕ) (fs : 
   -- its octets are the header's own exactly when the pad octets are all 0 and the length ends at the last field
   own-octets : (headerOctets rules taken word values ≡ take size s)
       ↔ ((getD s 1 0 ≡ 0)
-      × GapsZero s fixedLength (plan rules taken word)
-      × (size ≡ lastEnd fixedLength (plan rules taken word)))
+      × GapsZero s fixedLength (plannedFields s fixedLength (plan rules taken word))
+      × (size ≡ endOf fixedLength (plannedFields s fixedLength (plan rules taken word))))
   unfolding headerOctets octetsOf
   own-octets =
       let ps : List Planned = plan rules taken word in
@@ -267,6 +278,7 @@ module _ (rules : Rules) (edition : ℕ) (s : List ℕ) (size word : ℕ) (fs : 
       let summedUp = length-values s fixedLength ps a (omega arith) in
       let ends : fixedLength + length xs ≡ lastEnd fixedLength ps = length-laid fixedLength ps values a (omega arith) in
       let own = laid-own s fixedLength ps a (omega arith) in
+      let end : endOf fixedLength (plannedFields s fixedLength ps) ≡ lastEnd fixedLength ps = planned-end s fixedLength ps a (omega arith) in
       let rest : List ℕ = part s fixedLength (size - fixedLength) in
       let long : length rest ≡ size - fixedLength = length-part s fixedLength (size - fixedLength) (omega arith) in
       let head = header-back s size word o (one .header) (one .words) in (
@@ -275,9 +287,10 @@ module _ (rules : Rules) (edition : ℕ) (s : List ℕ) (size word : ℕ) (fs : 
             let pad : 0 ≡ getD s 1 0 = ap (λ (l : List ℕ). getD l 1 0) whole in
             let same : xs ≡ rest = ap (drop fixedLength) whole in
             let sized : size ≡ lastEnd fixedLength ps = omega (arith, ap length same) in
-            (sym pad, own .0 (same ∙ ap (λ (n : ℕ). part s fixedLength (n - fixedLength)) sized), sized),
+            (sym pad, own .0 (same ∙ ap (λ (n : ℕ). part s fixedLength (n - fixedLength)) sized), sized ∙ sym end),
         λ h.
-            let same : xs ≡ rest = own .1 (h .1) ∙ ap (λ (n : ℕ). part s fixedLength (n - fixedLength)) (sym (h .2)) in
+            let last′ : size ≡ lastEnd fixedLength ps = h .2 ∙ end in
+            let same : xs ≡ rest = own .1 (h .1) ∙ ap (λ (n : ℕ). part s fixedLength (n - fixedLength)) (sym last′) in
             let sized : fixedLength + length xs ≡ size = omega arith in
             rw (sized, same, head, h .0),
       )

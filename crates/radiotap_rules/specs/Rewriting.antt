@@ -33,17 +33,21 @@ abbrev pub joined : List Field → List ℕ
 joined [] = []
 joined (f ∷ fs) = f .octets ++ joined fs
 
--- the alignment gaps before the fields are 0
-abbrev pub GapsZero : List ℕ → (at : ℕ) → List Planned → Type 0
-GapsZero s at [] = Unit {0}
-GapsZero s at (p ∷ ps) =
-    ((i : ℕ) → at ≤ i → i < aligned (p .row .alignment) at → getD s i 0 ≡ 0)
-    × GapsZero s (aligned (p .row .alignment) at + p .row .size) ps
-
--- where the last field ends; at 8 if there is none
+-- where the last planned field ends; where there is none, the place before them
 abbrev pub lastEnd : (at : ℕ) → List Planned → ℕ
 lastEnd at [] = at
 lastEnd at (p ∷ ps) = lastEnd (aligned (p .row .alignment) at + p .row .size) ps
+
+-- where the last of these fields ends; where there is none, the place before them
+abbrev pub endOf : (at : ℕ) → List Field → ℕ
+endOf at [] = at
+endOf at (f ∷ fs) = endOf (f .place + length (f .octets)) fs
+
+-- the pad octets before these fields, from a place on, are 0
+abbrev pub GapsZero : List ℕ → (at : ℕ) → List Field → Type 0
+GapsZero s at [] = Unit {0}
+GapsZero s at (f ∷ fs) =
+    ((i : ℕ) → at ≤ i → i < f .place → getD s i 0 ≡ 0) × GapsZero s (f .place + length (f .octets)) fs
 
 -- a header with one presence word, bit 29 clear, read without a stop in an edition
 pub record OneWord (rules : Rules) (edition : ℕ) (s : List ℕ) (size word : ℕ) (fs : List Field) (frame : List ℕ) : Type 0 where
@@ -52,25 +56,24 @@ pub record OneWord (rules : Rules) (edition : ℕ) (s : List ℕ) (size word : �
   pub clear : bitSet word 29 ≡ false
   pub whole : reading rules edition s ≡ read fs ended frame
 
--- a header of so many octets rewritten in an edition, from its presence word and its fields' values
-pub record Rewritten (rules : Rules) (edition : ℕ) (s : List ℕ) (size word : ℕ) (values : List ℕ) : Type 0 where
+-- a header of so many octets rewritten in an edition, from its presence word and the values of the fields that it shows
+pub record Rewritten (rules : Rules) (edition : ℕ) (s : List ℕ) (size word : ℕ) (fs : List Field) : Type 0 where
   -- writing serves the edition and takes it for itself
   pub serves : served rules edition ≡ true
   pub itself : editionTaken (rules .writingDefault) edition ≡ edition
   -- the writer accepts the word and the values wherever there is room, and puts the octets there
-  pub accepts : Writable rules edition word values
-  pub answer : (room at : ℕ) → at + length (headerOctets rules edition word values) ≤ room
-      → writing rules room at edition word values ≡ given (at + length (headerOctets rules edition word values))
-  pub output : (out : List ℕ) (at : ℕ) → at + length (headerOctets rules edition word values) ≤ length out
-      → written rules out at edition word values ≡ splice out at (headerOctets rules edition word values)
-  -- these are the header's own octets exactly when its pad octets are all 0 and its length ends at the last field
-  pub own : (headerOctets rules edition word values ≡ take size s)
-      ↔ ((getD s 1 0 ≡ 0)
-      × GapsZero s fixedLength (plan rules edition word)
-      × (size ≡ lastEnd fixedLength (plan rules edition word)))
+  pub accepts : Writable rules edition word (joined fs)
+  pub answer : (room at : ℕ) → at + length (headerOctets rules edition word (joined fs)) ≤ room
+      → writing rules room at edition word (joined fs) ≡ given (at + length (headerOctets rules edition word (joined fs)))
+  pub output : (out : List ℕ) (at : ℕ) → at + length (headerOctets rules edition word (joined fs)) ≤ length out
+      → written rules out at edition word (joined fs) ≡ splice out at (headerOctets rules edition word (joined fs))
+  -- these are the header's own octets exactly when its pad octets, octet 1 among them, are all 0 and its length ends at
+  -- the last field (at 8 if none)
+  pub own : (headerOctets rules edition word (joined fs) ≡ take size s)
+      ↔ ((getD s 1 0 ≡ 0) × GapsZero s fixedLength fs × (size ≡ endOf fixedLength fs))
 
--- such a header is rewritten so in the same edition, which is what reading takes the edition for
+-- such a header is rewritten in the edition that reading takes the edition for
 abbrev pub RewritesItself : Type 0
 RewritesItself = (rules : Rules) (edition : ℕ) (s : List ℕ) (size word : ℕ) (fs : List Field) (frame : List ℕ) → tableOk rules ≡ true
     → Octets s → OneWord rules edition s size word fs frame
-    → Rewritten rules (editionTaken (rules .readingDefault) edition) s size word (joined fs)
+    → Rewritten rules (editionTaken (rules .readingDefault) edition) s size word fs

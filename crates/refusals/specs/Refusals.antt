@@ -25,7 +25,7 @@ identification = 2
 abbrev pub version : ℕ
 version = 3
 
--- 4: the datalink code or link type is not served
+-- 4: the datalink code is not served
 abbrev pub datalink : ℕ
 datalink = 4
 
@@ -38,8 +38,8 @@ abbrev pub includedLength : ℕ
 includedLength = 6
 
 -- 7: the packet octets run past the input, or an LE packet is too short
-abbrev pub pastInput : ℕ
-pastInput = 7
+abbrev pub shortPacket : ℕ
+shortPacket = 7
 
 -- 13: the output has no room from the given place
 abbrev pub noRoom : ℕ

@@ -16,14 +16,14 @@ pub const SHORT_HEADER: u32 = 1;
 pub const IDENTIFICATION: u32 = 2;
 // The version is another.
 pub const VERSION: u32 = 3;
-// The datalink code or link type is not served.
+// The datalink code is not served.
 pub const DATALINK: u32 = 4;
 // Fewer octets than a record's header remain where a record starts.
 pub const SHORT_RECORD: u32 = 5;
 // The included length is above the original length.
 pub const INCLUDED_LENGTH: u32 = 6;
 // The packet octets run past the input, or an LE packet is too short.
-pub const PACKET: u32 = 7;
+pub const SHORT_PACKET: u32 = 7;
 // The output has no room from the given place.
 pub const NO_ROOM: u32 = 13;
 // A record place is outside the part of the input where records lie.

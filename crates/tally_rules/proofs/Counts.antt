@@ -1,6 +1,6 @@
 -- Tallying the records of a list adds its counts and sums to a tally.
 -- Assumes nothing.
-use Prim.Native.Nat.{ℕ, zero, suc, _+_}
+use Prim.Native.Nat.{ℕ, _+_}
 use mathlib.Core.Path.{_≡_, refl, sym, ap, _∙_}
 use mathlib.Core.Bool.{Bool, true, false, cond}
 use mathlib.Core.List.{List, [], _∷_}
@@ -8,13 +8,13 @@ use native.Mathlib.Omega.{arith}
 use lib.ListN.{length}
 use lib.Dec.{eqb}
 use borrow.Author.Tests.{ne-eqb}
-use Rattle.refusals.specs.Refusals.{Answer, refused, given}
+use Rattle.refusals.specs.Refusals.{refused, given}
 use Rattle.btsnoop_rules.specs.Record.{received, command}
 use Rattle.btsnoop_rules.specs.Drops.{dropsBetween}
 use Rattle.tally_rules.specs.declared.Tally.{Tally}
 use Rattle.tally_rules.specs.declared.Entry.{Entry}
-use Rattle.tally_rules.specs.Tally.{sumPast, oneIf, lostBy, added, fits, updating}
-use Rattle.tally_rules.specs.Counts.{emptyTally, onUpdate, tallied, sumOf, countOf, differencesFrom, differences, Counts, TallyCounts}
+use Rattle.tally_rules.specs.Tally.{sumPast, lostBy, added, fits, updating}
+use Rattle.tally_rules.specs.Counts.{emptyTally, onUpdate, tallied, sumOf, countOf, differencesFrom, differences, lastDrops, TallyCounts}
 
 -- what the records of a list add to lost
 abbrev lostFrom : Tally → List Entry → ℕ
@@ -27,6 +27,7 @@ record Adds (es : List Entry) (t u : Tally) : Type 0 where
   commands : u .commands ≡ t .commands + countOf (λ (e : Entry). command (e .flags)) es
   octets : u .octets ≡ t .octets + sumOf (λ (e : Entry). e .included) es
   lost : u .lost ≡ t .lost + lostFrom t es
+  last : u .last ≡ lastDrops (t .last) es
 
 -- no record adds nothing to lost
 lost-none : (t : Tally) → lostFrom t [] ≡ 0
@@ -58,6 +59,7 @@ adds [] t u h =
       commands = sym (ap (λ (x : Tally). x .commands) same) ∙ omega arith;
       octets = sym (ap (λ (x : Tally). x .octets) same) ∙ omega arith;
       lost = sym (ap (λ (x : Tally). x .lost) same) ∙ omega (arith, lost-none t);
+      last = sym (ap (λ (x : Tally). x .last) same);
     }
 adds (e ∷ es) t u h = go (fits (added t e)) (λ k. adds es (added t e) u k) h
   where
@@ -71,6 +73,7 @@ adds (e ∷ es) t u h = go (fits (added t e)) (λ k. adds es (added t e) u k) h
           commands = r .commands ∙ omega arith;
           octets = r .octets ∙ omega arith;
           lost = r .lost ∙ omega (arith, lost-first t e es);
+          last = r .last;
         }
     go false rest k = let z : _≡_ {A = ℕ} 0 1 = cc in absurd (omega arith)
 
@@ -84,4 +87,5 @@ tally-counts es t h =
       commands = a .commands ∙ omega arith;
       octets = a .octets ∙ omega arith;
       lost = a .lost ∙ omega arith;
+      last = a .last;
     }

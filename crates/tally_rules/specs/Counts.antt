@@ -42,13 +42,19 @@ abbrev pub differences : List Entry → ℕ
 differences [] = 0
 differences (e ∷ es) = differencesFrom (e .drops) es
 
--- the counts and sums of a list
+-- the drops of the last record of a list that follows one with these drops
+abbrev pub lastDrops : (drops : ℕ) → List Entry → ℕ
+lastDrops d [] = d
+lastDrops d (e ∷ es) = lastDrops (e .drops) es
+
+-- the counts and sums of a list, and its last drop number
 pub record Counts (es : List Entry) (t : Tally) : Type 0 where
   pub records : t .records ≡ length es
   pub received : t .received ≡ countOf (λ (e : Entry). received (e .flags)) es
   pub commands : t .commands ≡ countOf (λ (e : Entry). command (e .flags)) es
   pub octets : t .octets ≡ sumOf (λ (e : Entry). e .included) es
   pub lost : t .lost ≡ differences es
+  pub last : t .last ≡ lastDrops 0 es
 
 -- tallying the records of a list from an empty tally gives them, where none is refused
 abbrev pub TallyCounts : Type 0

@@ -1,18 +1,16 @@
 -- Laws of walks and surveys over any step that goes forward.
 -- Assumes nothing.
 use Prim.Native.Nat.{ℕ, zero, suc, _+_, _-_, _≤_, _<_}
-use mathlib.Core.Path.{_≡_, refl, sym, ap, _∙_, subst}
-use mathlib.Core.Bool.{Bool, true, false, cond, _&&_}
+use mathlib.Core.Path.{_≡_, refl, sym, ap, _∙_}
 use mathlib.Core.List.{List, [], _∷_}
 use native.Mathlib.Omega.{arith}
 use native.Mathlib.Nat.{zero-add, suc-add, lt-of-not-le}
 use lib.ListN.{length}
-use lib.Dec.{leb}
 use borrow.Author.Tests.{le-leb, lt-leb}
 use native.Mathlib.Decide.{decLe}
 use Rattle.refusals.specs.Refusals.{Answer, refused, given, recordPlace}
-use Rattle.tiling.specs.Tiling.{Next, end, whole, Placed, Ending, ended, more, broken, Walk, stop, pass, items, ending, used, onward, walk, Survey, surveyOf, survey, Tiles, none, one}
-use Rattle.tiling.specs.Claims.{Forward, Found, EndsAt, Reached, Final, then, inTurn, sum, CountIsPassed, NeverMore, SurveysAdd, TilesWalk}
+use Rattle.tiling.specs.Tiling.{Next, end, whole, Placed, Ending, ended, more, broken, stop, items, ending, used, onward, walk, Survey, surveyOf, survey, Tiles, none, one}
+use Rattle.tiling.specs.Claims.{Forward, Found, Reached, Final, then, inTurn, sum, CountIsPassed, NeverMore, SurveysAdd, TilesWalk}
 
 -- an ending names a place that was reached
 abbrev Names : Ending → ℕ → Type 0
@@ -97,8 +95,8 @@ module _ {A : Type 0} (low high : ℕ) (step : ℕ → Answer (Next A)) where
 
   module _ (fw : Forward low high step) where
     -- a walk allowed as many items as there are octets left never says "more"
-    pub never-more : NeverMore low high step
-    never-more zero p l h left = go (step p) refl
+    walk-final : (n p : ℕ) → low ≤ p → p ≤ high → high - p ≤ n → Final (ending (walk step n p))
+    walk-final zero p l h left = go (step p) refl
       where
         here : p ≡ high
         here = omega arith
@@ -110,7 +108,7 @@ module _ {A : Type 0} (low high : ℕ) (step : ℕ → Answer (Next A)) where
         go (refused n q) e = let z : _≡_ {A = ℕ} 0 1 = cc at-end in absurd (omega arith)
         go (given end) e = tt
         go (given (whole a q)) e = let z : _≡_ {A = ℕ} 0 1 = cc at-end in absurd (omega arith)
-    never-more (suc n) p l h left = go (never-more n) (step p) refl
+    walk-final (suc n) p l h left = go (walk-final n) (step p) refl
       where
         go : ((q : ℕ) → low ≤ q → q ≤ high → high - q ≤ n → Final (ending (walk step n q)))
             → (x : Answer (Next A)) → step p ≡ x → Final (ending (onward p (walk step n) x))
@@ -139,9 +137,9 @@ module _ {A : Type 0} (low high : ℕ) (step : ℕ → Answer (Next A)) where
             rest q (omega arith) (fw .inside e) r m
 
     -- surveys one after another end as one survey with the summed number does
-    pub surveys-add : SurveysAdd low high step
-    surveys-add n [] p = refl
-    surveys-add n (m ∷ ms) p = go (surveys-add m ms) (decLe low p) (decLe p high)
+    surveys-sum : (n : ℕ) (ms : List ℕ) (p : ℕ) → inTurn low high step n ms p ≡ survey low high step (sum n ms) p
+    surveys-sum n [] p = refl
+    surveys-sum n (m ∷ ms) p = go (surveys-sum m ms) (decLe low p) (decLe p high)
       where
         N : ℕ
         N = sum m ms
@@ -160,14 +158,22 @@ module _ {A : Type 0} (low high : ℕ) (step : ℕ → Answer (Next A)) where
         go rest (yes l) (no h) = rw (survey-past n p l (lt-of-not-le h), survey-past (n + N) p l (lt-of-not-le h))
         go rest (no l) h = rw (survey-below n p (lt-of-not-le l), survey-below (n + N) p (lt-of-not-le l))
 
-    -- items that tile the input from a place to its end are what a walk from there passes, and then it ends
-    pub tiles-walk : TilesWalk low high step
-    tiles-walk p xs n l t few = along t n (fw .at-end l) few
-      where
-        along : {p r : ℕ} {xs : List (Placed A)} → Tiles (Found step) p xs r → (n : ℕ) → step r ≡ given end → length xs ≤ n
-            → (items (walk step n p) ≡ xs) × (ending (walk step n p) ≡ ended r)
-        along (none {p}) n e few = (ap items (walk-at-end n p e), ap ending (walk-at-end n p e))
-        along (one h t) zero e few = absurd (omega arith)
-        along (one {p} {q} {r} {a} {xs} h t) (suc n) e few =
-            let rest = along t n e (omega arith) in
-            rw (h, rest .0, rest .1) (refl, refl)
+  -- a walk allowed as many items as there are octets left never says "more"
+  pub never-more : NeverMore low high step
+  never-more fw = walk-final fw
+
+  -- surveys one after another end as one survey with the summed number does
+  pub surveys-add : SurveysAdd low high step
+  surveys-add fw = surveys-sum fw
+
+  -- items that tile the input from a place to its end are what a walk from there passes, and then it ends
+  pub tiles-walk : TilesWalk low high step
+  tiles-walk fw p xs n l t few = along t n (fw .at-end l) few
+    where
+      along : {p r : ℕ} {xs : List (Placed A)} → Tiles (Found step) p xs r → (n : ℕ) → step r ≡ given end → length xs ≤ n
+          → (items (walk step n p) ≡ xs) × (ending (walk step n p) ≡ ended r)
+      along (none {p}) n e few = (ap items (walk-at-end n p e), ap ending (walk-at-end n p e))
+      along (one h t) zero e few = absurd (omega arith)
+      along (one {p} {q} {r} {a} {xs} h t) (suc n) e few =
+          let rest = along t n e (omega arith) in
+          rw (h, rest .0, rest .1) (refl, refl)

@@ -60,13 +60,15 @@ module _ {A : Type 0} (low high : ℕ) (step : ℕ → Answer (Next A)) where
 
   -- a walk allowed as many items as there are octets left never says "more"
   abbrev pub NeverMore : Type 0
-  NeverMore = (n p : ℕ) → low ≤ p → p ≤ high → high - p ≤ n → Final (ending (walk step n p))
+  NeverMore = Forward low high step → (n p : ℕ) → low ≤ p → p ≤ high → high - p ≤ n → Final (ending (walk step n p))
 
   -- surveys one after another end as one survey with the summed number does, and count as many
   abbrev pub SurveysAdd : Type 0
-  SurveysAdd = (n : ℕ) (ms : List ℕ) (p : ℕ) → inTurn low high step n ms p ≡ survey low high step (sum n ms) p
+  SurveysAdd = Forward low high step → (n : ℕ) (ms : List ℕ) (p : ℕ)
+      → inTurn low high step n ms p ≡ survey low high step (sum n ms) p
 
   -- items that tile the input from a place to its end are what a walk from there passes, and then it ends
   abbrev pub TilesWalk : Type 0
-  TilesWalk = (p : ℕ) (xs : List (Placed A)) (n : ℕ) → low ≤ high → Tiles (Found step) p xs high → length xs ≤ n
+  TilesWalk = Forward low high step → (p : ℕ) (xs : List (Placed A)) (n : ℕ) → low ≤ high → Tiles (Found step) p xs high
+      → length xs ≤ n
       → (items (walk step n p) ≡ xs) × (ending (walk step n p) ≡ ended high)
