@@ -157,14 +157,14 @@ pub fn earlier(answer: EarlierAnswer) -> Earlier
         EarlierAnswer::Packet {
             capture,
             packet,
-            length,
+            size,
         } => Earlier {
             kind: 1,
             number: 0,
             place: 0,
             capture: capture_number(capture),
             packet: packet as u64,
-            size: length as u64,
+            size: size as u64,
         },
     }
 }

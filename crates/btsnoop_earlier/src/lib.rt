@@ -30,7 +30,7 @@ pub enum EarlierAnswer {
     Packet {
         capture: Capture,
         packet: usize,
-        length: usize,
+        size: usize,
     },
 }
 
@@ -47,8 +47,8 @@ pub fn packet<'a>(first: &'a [u8], first_at: usize, second: &'a [u8], second_at:
         EarlierAnswer::Packet {
             capture,
             packet,
-            length,
-        } => part_of(first, second, capture, packet, length),
+            size,
+        } => part_of(first, second, capture, packet, size),
     }
 }
 
@@ -68,13 +68,13 @@ fn part_of<'a>(
     second: &'a [u8],
     capture: Capture,
     packet: usize,
-    length: usize,
+    size: usize,
 ) -> &'a [u8]
-    ensures { λ r. ⌜ now r ≡ cond (eqb (captureSays capture) 1) (part (now (first .entry)) packet length) (part (now (second .entry)) packet length) ⌝ }
+    ensures { λ r. ⌜ now r ≡ cond (eqb (captureSays capture) 1) (part (now (first .entry)) packet size) (part (now (second .entry)) packet size) ⌝ }
 {
     match capture {
-        Capture::First => octets::part(first, packet, length),
-        Capture::Second => octets::part(second, packet, length),
+        Capture::First => octets::part(first, packet, size),
+        Capture::Second => octets::part(second, packet, size),
     }
 }
 
@@ -113,7 +113,7 @@ fn first_ended(second: RecordAnswer) -> EarlierAnswer
         } => EarlierAnswer::Packet {
             capture: Capture::Second,
             packet,
-            length: numbers.included as usize,
+            size: numbers.included as usize,
         },
     }
 }
@@ -130,7 +130,7 @@ fn first_whole(numbers: Numbers, packet: usize, second: RecordAnswer) -> Earlier
         RecordAnswer::End => EarlierAnswer::Packet {
             capture: Capture::First,
             packet,
-            length: numbers.included as usize,
+            size: numbers.included as usize,
         },
         RecordAnswer::Whole {
             numbers: other,
@@ -148,13 +148,13 @@ fn by_time(first: Numbers, packet: usize, second: Numbers, other: usize) -> Earl
         EarlierAnswer::Packet {
             capture: Capture::First,
             packet,
-            length: first.included as usize,
+            size: first.included as usize,
         }
     } else {
         EarlierAnswer::Packet {
             capture: Capture::Second,
             packet: other,
-            length: second.included as usize,
+            size: second.included as usize,
         }
     }
 }

@@ -139,6 +139,8 @@ pub instants : Instants
 unfolding reading writing
 instants =
     record {
+      constant = refl;
+      days = refl;
       start = refl;
       before = refl;
       year-2000 = refl;

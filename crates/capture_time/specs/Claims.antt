@@ -1,5 +1,5 @@
 -- What holds of reading and writing a time together. The proofs stand in proofs/Claims.antt.
-use Prim.Native.Nat.{ℕ, _-_, _^_, _<_}
+use Prim.Native.Nat.{ℕ, _*_, _-_, _^_, _<_}
 use mathlib.Core.Path.{_≡_}
 use mathlib.Core.Logic.{_↔_}
 use mathlib.Core.Bool.{true, false}
@@ -42,6 +42,9 @@ pub record ReadsBack : Type 0 where
 
 -- known times: Unix time's start, a microsecond before it, 1 January 2000, and the ends of the ranges
 pub record Instants : Type 0 where
+  -- C in decimal, and in days
+  pub constant : unixEpoch ≡ 62_168_256_000_000_000
+  pub days : unixEpoch ≡ 719_540 * 86_400 * 1_000_000
   pub start : reading (pos unixEpoch) ≡ given (at (pos 0) 0)
   pub before : reading (pos (unixEpoch - 1)) ≡ given (at (negsuc 0) 999_999)
   pub year-2000 : reading (pos 0x00E03AB44A676000) ≡ given (at (pos 946_684_800) 0)

@@ -27,13 +27,13 @@ returns : tie.Need-returns
 returns c =
     let a = c .before .before .before .before .before .args in
     c .part .ensures
-    ∙ sym (ap (λ (x : Capture). cond (eqb (captureSays x) 1) (part (now (a .first)) (a .packet) (a .length)) (part (now (a .second)) (a .packet) (a .length))) (c .before .enum-told .given .1))
+    ∙ sym (ap (λ (x : Capture). cond (eqb (captureSays x) 1) (part (now (a .first)) (a .packet) (a .size)) (part (now (a .second)) (a .packet) (a .size))) (c .before .enum-told .given .1))
 
 returns-2 : tie.Need-returns-2
 returns-2 c =
     let a = c .before .before .before .before .before .args in
     c .part2 .ensures
-    ∙ sym (ap (λ (x : Capture). cond (eqb (captureSays x) 1) (part (now (a .first)) (a .packet) (a .length)) (part (now (a .second)) (a .packet) (a .length))) (c .before .enum-told2 .given .1))
+    ∙ sym (ap (λ (x : Capture). cond (eqb (captureSays x) 1) (part (now (a .first)) (a .packet) (a .size)) (part (now (a .second)) (a .packet) (a .size))) (c .before .enum-told2 .given .1))
 
 pub part-of-spec : {M : Type 1} → statement M
 part-of-spec =
