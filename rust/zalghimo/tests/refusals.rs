@@ -5,7 +5,7 @@ mod made;
 use made::{file, le, p2, p3, radiotap, refused, RESET, RESET_FIELDS};
 use std::error::Error;
 use zalghimo::le::{Packet, Values};
-use zalghimo::radiotap::Header;
+use zalghimo::radiotap::{name, Header};
 use zalghimo::{check, push_header, push_record, record_at, survey, write_header, write_record};
 use zalghimo::{Capture, Reason, RecordFields, Refusal, Tally, Time};
 
@@ -121,15 +121,29 @@ fn reasons_are_numbered_from_1() {
     assert_eq!(Reason::ALL.len(), 20);
 }
 
+/// The texts of an array in the C header of words, in their order.
+fn c_texts(array: &str) -> Vec<&'static str> {
+    let header = include_str!("../../../include/zalghimo_words.h");
+    let (_, texts) = header.split_once(array).expect("the array");
+    let (texts, _) = texts.split_once("};").expect("its end");
+    texts.split('"').skip(1).step_by(2).collect()
+}
+
 #[test]
 fn words_are_those_of_the_c_header() {
-    let header = include_str!("../../../include/zalghimo_words.h");
+    let words = c_texts("words[] = {");
+    assert_eq!(words.len(), Reason::ALL.len() + 1);
     for reason in Reason::ALL {
-        assert!(header.contains(&format!("\"{reason}\"")), "{reason}");
+        assert_eq!(words[reason.number() as usize], reason.words());
     }
-    for bit in 0..29 {
-        let name = zalghimo::radiotap::name(bit).expect("a name");
-        assert!(header.contains(&format!("\"{name}\"")), "{name}");
+}
+
+#[test]
+fn names_are_those_of_the_c_header() {
+    let names = c_texts("names[] = {");
+    assert_eq!(names.len(), 32);
+    for (bit, text) in (0..).zip(names) {
+        assert_eq!(name(bit), (bit < 29).then_some(text), "bit {bit}");
     }
 }
 
