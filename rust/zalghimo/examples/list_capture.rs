@@ -3,18 +3,19 @@
 
 use std::env;
 use std::fs;
+use std::path::PathBuf;
 use std::process::ExitCode;
 use zalghimo::{Capture, Record, Refusal};
 
 fn main() -> ExitCode {
-    let Some(path) = env::args().nth(1) else {
+    let Some(path) = env::args_os().nth(1).map(PathBuf::from) else {
         eprintln!("usage: list_capture FILE");
         return ExitCode::from(2);
     };
     let octets = match fs::read(&path) {
         Ok(octets) => octets,
         Err(error) => {
-            eprintln!("{path}: {error}");
+            eprintln!("{}: {error}", path.display());
             return ExitCode::from(2);
         }
     };
