@@ -90,6 +90,10 @@ pub struct Earlier<'a> {
     pub capture: Which,
     /// The record's packet, a part of that capture.
     pub packet: &'a [u8],
+    /// The packet's place in that capture.
+    pub packet_place: usize,
+    /// Where that capture's next record starts, or its end.
+    pub next_place: usize,
 }
 
 /// The refusal of one of two captures.
@@ -104,7 +108,44 @@ pub struct EarlierRefusal {
 /// Finds the earlier of two captures' records, each at its place, or `None` where both are at their end.
 ///
 /// On equal times it is the first capture's; where one is at its end, the other's. The file headers are not judged.
-/// Refusals: 17, 5, 6, 7, the first capture's before the second's.
+///
+/// # Errors
+///
+/// Those of [`record_at`](crate::record_at()), the first capture's before the second's.
+///
+/// # Examples
+///
+/// Two captures merged by time:
+///
+/// ```
+/// # use zalghimo::{push_header, push_record, RecordFields, Refusal};
+/// use zalghimo::{earlier, Which, FIRST_RECORD};
+///
+/// # fn capture(records: &[(i64, &[u8])]) -> Result<Vec<u8>, Refusal> {
+/// #     let mut octets = Vec::new();
+/// #     push_header(&mut octets, 1001)?;
+/// #     for &(time_field, packet) in records {
+/// #         let original_length = packet.len() as u32;
+/// #         push_record(&mut octets, &RecordFields { original_length, time_field, ..Default::default() }, packet)?;
+/// #     }
+/// #     Ok(octets)
+/// # }
+/// // Captures whose records have times 1, 4, 4 and 2, 4.
+/// let first = capture(&[(1, b"a"), (4, b"c"), (4, b"d")])?;
+/// let second = capture(&[(2, b"b"), (4, b"e")])?;
+///
+/// let mut merged: Vec<u8> = Vec::new();
+/// let mut places = [FIRST_RECORD; 2];
+/// while let Some(found) = earlier(&first, places[0], &second, places[1])? {
+///     merged.extend(found.packet);
+///     match found.capture {
+///         Which::First => places[0] = found.next_place,
+///         Which::Second => places[1] = found.next_place,
+///     }
+/// }
+/// assert_eq!(merged, b"abcde");
+/// # Ok::<(), Box<dyn std::error::Error>>(())
+/// ```
 pub fn earlier<'a>(
     first: &'a [u8],
     first_place: usize,
@@ -122,8 +163,14 @@ pub fn earlier<'a>(
     if answer.kind == END {
         return Ok(None);
     }
-    let packet = &octets[answer.packet as usize..][..answer.length as usize];
-    Ok(Some(Earlier { capture, packet }))
+    let packet_place = answer.packet as usize;
+    let next_place = packet_place + answer.length as usize;
+    Ok(Some(Earlier {
+        capture,
+        packet: &octets[packet_place..next_place],
+        packet_place,
+        next_place,
+    }))
 }
 
 impl fmt::Display for SurveyRefusal {

@@ -72,6 +72,7 @@ fn earlier_of_two() {
         .expect("whole")
         .expect("one");
     assert_eq!((found.capture, found.packet), (Which::Second, &[4, 5][..]));
+    assert_eq!((found.packet_place, found.next_place), (40, 42));
     let equal = earlier(&later, 16, &later, 16)
         .expect("whole")
         .expect("one");
