@@ -6,7 +6,7 @@ use std::iter::FusedIterator;
 use zalghimo_sys::btsnoop;
 
 /// A BTSnoop file whose header is accepted. The records are judged as they are read.
-#[derive(Clone, Copy, Debug, PartialEq, Eq)]
+#[derive(Clone, Copy, Debug, PartialEq, Eq, Hash)]
 pub struct Capture<'a> {
     octets: &'a [u8],
     datalink: u32,
@@ -53,6 +53,15 @@ impl<'a> Capture<'a> {
 }
 
 impl<'a> IntoIterator for Capture<'a> {
+    type Item = Result<Record<'a>, Refusal>;
+    type IntoIter = Records<'a>;
+
+    fn into_iter(self) -> Records<'a> {
+        self.records()
+    }
+}
+
+impl<'a> IntoIterator for &Capture<'a> {
     type Item = Result<Record<'a>, Refusal>;
     type IntoIter = Records<'a>;
 

@@ -21,8 +21,15 @@
 //! # Ok::<(), zalghimo::Refusal>(())
 //! ```
 
+mod field;
+mod parts;
+
+pub use field::{name, Field};
+pub use parts::{Fields, Words};
+
 use crate::answer::{accepted, place_after};
 use crate::{write, Refusal};
+use std::sync::Arc;
 use zalghimo_sys::{RADIOTAP_MOST_FIELDS, STOPPED};
 
 /// Numbers that the library gives for a field: word, bit, start, size.
@@ -35,23 +42,14 @@ const FIXED: usize = 8;
 const MOST_PAD: usize = 29 * 7;
 
 /// A radiotap header read in an edition, and the frame behind it.
-#[derive(Clone, Debug, PartialEq, Eq)]
+#[derive(Clone, Debug, PartialEq, Eq, Hash)]
 pub struct Header<'a> {
     octets: &'a [u8],
-    fields: Vec<Field<'a>>,
+    fields: Arc<[Field<'a>]>,
     ending: Ending,
     frame: usize,
     pad: u8,
     words: usize,
-}
-
-/// A field that is shown.
-#[derive(Clone, Copy, Debug, PartialEq, Eq, Hash)]
-pub struct Field<'a> {
-    word: u32,
-    bit: u32,
-    start: usize,
-    octets: &'a [u8],
 }
 
 /// How a reading ends.
@@ -92,8 +90,8 @@ impl<'a> Header<'a> {
     }
 
     /// The fields in order of word and bit.
-    pub fn fields(&self) -> impl ExactSizeIterator<Item = Field<'a>> + '_ {
-        self.fields.iter().copied()
+    pub fn fields(&self) -> Fields<'a> {
+        Fields::of(&self.fields)
     }
 
     /// Whether the fields end there or the reading stopped.
@@ -117,93 +115,27 @@ impl<'a> Header<'a> {
     }
 
     /// The presence words.
-    pub fn words(&self) -> impl ExactSizeIterator<Item = u32> + '_ {
-        (0..self.words).map(|number| zalghimo_sys::radiotap::word(self.octets, number).value as u32)
+    pub fn words(&self) -> Words<'a> {
+        Words::of(self.octets, self.words)
     }
 }
 
-impl<'a> Field<'a> {
-    /// The field of which the library gives these numbers.
-    fn of(octets: &'a [u8], numbers: &[u64]) -> Field<'a> {
-        let (start, size) = (numbers[2] as usize, numbers[3] as usize);
-        Field {
-            word: numbers[0] as u32,
-            bit: numbers[1] as u32,
-            start,
-            octets: &octets[start..][..size],
-        }
-    }
+impl<'a> IntoIterator for Header<'a> {
+    type Item = Field<'a>;
+    type IntoIter = Fields<'a>;
 
-    /// The presence word, from 0.
-    pub fn word(&self) -> u32 {
-        self.word
-    }
-
-    /// The bit in it, from 0.
-    pub fn bit(&self) -> u32 {
-        self.bit
-    }
-
-    /// The published name.
-    pub fn name(&self) -> &'static str {
-        name(self.bit).unwrap_or_default()
-    }
-
-    /// The place where the field starts, from the header's start.
-    pub fn start(&self) -> usize {
-        self.start
-    }
-
-    /// The field's octets, a part of the input; its numbers are little-endian.
-    pub fn octets(&self) -> &'a [u8] {
-        self.octets
-    }
-
-    /// The value in dBm, for the three fields that are one (bits 5, 6 and 10).
-    pub fn dbm(&self) -> Option<i8> {
-        match (self.bit, self.octets) {
-            (5 | 6 | 10, &[octet]) => Some(octet as i8),
-            _ => None,
-        }
+    fn into_iter(self) -> Fields<'a> {
+        self.fields()
     }
 }
 
-/// The published names of bits 0 to 28.
-const NAMES: [&str; 29] = [
-    "TSFT",
-    "Flags",
-    "Rate",
-    "Channel",
-    "FHSS",
-    "Antenna signal",
-    "Antenna noise",
-    "Lock quality",
-    "TX attenuation",
-    "dB TX attenuation",
-    "dBm TX power",
-    "Antenna",
-    "dB antenna signal",
-    "dB antenna noise",
-    "RX flags",
-    "TX flags",
-    "RTS retries",
-    "data retries",
-    "XChannel",
-    "MCS",
-    "A-MPDU status",
-    "VHT",
-    "timestamp",
-    "HE",
-    "HE-MU",
-    "HE-MU-other-user",
-    "0-length-PSDU",
-    "L-SIG",
-    "TLV",
-];
+impl<'a> IntoIterator for &Header<'a> {
+    type Item = Field<'a>;
+    type IntoIter = Fields<'a>;
 
-/// The published name of the field that a bit calls for; bits 29 to 31 call for none.
-pub fn name(bit: u32) -> Option<&'static str> {
-    NAMES.get(bit as usize).copied()
+    fn into_iter(self) -> Fields<'a> {
+        self.fields()
+    }
 }
 
 /// Writes a header with one presence word into an output at a place and answers the place after it.

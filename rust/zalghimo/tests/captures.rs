@@ -3,6 +3,7 @@
 mod made;
 
 use made::{file, refused, RESET, RESET_FIELDS};
+use std::collections::HashSet;
 use std::time::{Duration, UNIX_EPOCH};
 use zalghimo::{check, earlier, record_at, survey, Capture, RecordFields, Tally, Time, Which};
 
@@ -36,6 +37,21 @@ fn records_come_out_as_written() {
         (check(&octets).expect("accepted").records, read.len()),
         (3, 3)
     );
+}
+
+#[test]
+fn captures_are_walked_again_and_again() {
+    let octets = file(&three());
+    let capture = Capture::new(&octets).expect("accepted");
+    for _ in 0..2 {
+        let mut records = 0;
+        for record in &capture {
+            records += record.map(|_| 1).expect("whole");
+        }
+        assert_eq!(records, 3);
+    }
+    let distinct = HashSet::from([capture, capture]);
+    assert_eq!(distinct.len(), 1);
 }
 
 #[test]

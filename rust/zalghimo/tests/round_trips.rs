@@ -4,7 +4,7 @@ mod made;
 
 use made::{file, p3};
 use zalghimo::le::{self, Dependent, Packet, PduType, Phy, Values};
-use zalghimo::radiotap::{self, Ending, Header};
+use zalghimo::radiotap::{self, Ending, Field, Fields, Header, Words};
 use zalghimo::{push_header, push_record, write_header, write_record, Capture};
 
 #[test]
@@ -83,6 +83,44 @@ fn radiotap_fields_come_out_as_written() {
         let end = radiotap::write(&mut again, 0, 3, presence, &read).expect("written");
         assert_eq!((end, &again[..]), (header.length(), &octets[3..3 + end]));
     }
+}
+
+/// The fields and the words of a header that is read here and left behind.
+fn parts(octets: &[u8]) -> (Fields<'_>, Words<'_>) {
+    let header = Header::read(octets, 1).expect("accepted");
+    (header.fields(), header.words())
+}
+
+#[test]
+fn fields_and_words_are_walked_from_both_ends() {
+    let octets = made::radiotap(&[0xA000_0001, 0x0000_0020], 25);
+    let (fields, words) = parts(&octets);
+    assert_eq!((fields.len(), words.len()), (2, 2));
+    let starts = |field: Field| field.start();
+    assert!(fields.clone().map(starts).eq([16, 24]));
+    assert!(fields.rev().map(starts).eq([24, 16]));
+    assert!(words.clone().eq([0xA000_0001, 0x0000_0020]));
+    assert!(words.rev().eq([0x0000_0020, 0xA000_0001]));
+
+    let (mut fields, mut words) = parts(&octets);
+    assert_eq!(
+        (fields.nth(1).map(starts), words.nth(1)),
+        (Some(24), Some(0x20))
+    );
+    assert!(fields.next().is_none() && fields.next_back().is_none() && fields.next().is_none());
+    assert!(words.next().is_none() && words.next_back().is_none() && words.next().is_none());
+}
+
+#[test]
+fn headers_are_walked_by_reference_and_by_value() {
+    let octets = made::radiotap(&[0x0000_002F], 23);
+    let header = Header::read(&octets, 1).expect("accepted");
+    let mut bits = Vec::new();
+    for field in &header {
+        bits.push(field.bit());
+    }
+    assert_eq!(bits, [0, 1, 2, 3, 5]);
+    assert!(header.into_iter().map(|field| field.bit()).eq(bits));
 }
 
 #[test]
