@@ -2,6 +2,8 @@
 
 use crate::answer::accepted;
 use crate::{record_at, Record, Refusal, FIRST_RECORD};
+#[cfg(doc)]
+use crate::{Reason, Survey};
 use std::iter::FusedIterator;
 use zalghimo_sys::btsnoop;
 
@@ -13,7 +15,14 @@ pub struct Capture<'a> {
 }
 
 impl<'a> Capture<'a> {
-    /// Judges the file header. Refusals: 1, 2, 3, 4.
+    /// Judges the file header.
+    ///
+    /// # Errors
+    ///
+    /// In this order: [`Reason::ShortHeader`], [`Reason::Identification`], [`Reason::Version`],
+    /// [`Reason::Datalink`].
+    ///
+    /// # Examples
     ///
     /// ```
     /// let refusal = zalghimo::Capture::new(b"btsnoop\0").unwrap_err();
@@ -38,12 +47,15 @@ impl<'a> Capture<'a> {
         self.octets
     }
 
-    /// The records from the first one on.
+    /// The records from the first one on. A refusal is the last item, as [`Records`] says.
     pub fn records(&self) -> Records<'a> {
         self.records_from(FIRST_RECORD)
     }
 
-    /// The records from a place on, as [`Record::next_place`] or [`Survey`](crate::Survey) tell it.
+    /// The records from a place on, as [`Record::next_place`] or [`Survey::reached`] tell it.
+    ///
+    /// A place below [`FIRST_RECORD`] or above the file's length gives [`Reason::RecordPlace`] as the only item. At
+    /// any other place octets are read as a record, whether or not one starts there.
     pub fn records_from(&self, place: usize) -> Records<'a> {
         Records {
             octets: self.octets,
@@ -70,7 +82,11 @@ impl<'a> IntoIterator for &Capture<'a> {
     }
 }
 
-/// The records of a capture, one after another. After a refusal it ends.
+/// The records of a capture, one after another: what [`record_at`] gives at each place.
+///
+/// A refusal is the last item; the items before it are whole records. It is one of [`Reason::ShortRecord`],
+/// [`Reason::IncludedAboveOriginal`] and [`Reason::ShortPacket`], and after [`Capture::records_from`] also
+/// [`Reason::RecordPlace`].
 #[derive(Clone, Debug)]
 pub struct Records<'a> {
     octets: &'a [u8],

@@ -2,6 +2,8 @@
 
 use crate::answer::{accepted, refusal};
 use crate::Refusal;
+#[cfg(doc)]
+use crate::{record_at, Reason};
 use std::error::Error;
 use std::fmt;
 use zalghimo_sys::{btsnoop, END};
@@ -15,7 +17,15 @@ pub struct Checked {
     pub records: usize,
 }
 
-/// Checks a whole file: header and every record. Refusals: 1, 2, 3, 4, then those of the first record refused.
+/// Checks a whole file: header and every record.
+///
+/// # Errors
+///
+/// In this order: [`Reason::ShortHeader`], [`Reason::Identification`], [`Reason::Version`], [`Reason::Datalink`]; then
+/// those of the first record refused: [`Reason::ShortRecord`], [`Reason::IncludedAboveOriginal`],
+/// [`Reason::ShortPacket`].
+///
+/// # Examples
 ///
 /// ```
 /// let file = b"btsnoop\0\x00\x00\x00\x01\x00\x00\x03\xEA";
@@ -53,7 +63,12 @@ pub struct SurveyRefusal {
 
 /// Passes the records from a place on, at most a number of them. The file header is not judged.
 ///
-/// Refusals: 17, 5, 6, 7.
+/// # Errors
+///
+/// [`Reason::RecordPlace`] for the place given; then, where a record that may still be passed is refused, its
+/// [`Reason::ShortRecord`], [`Reason::IncludedAboveOriginal`] or [`Reason::ShortPacket`], in this order.
+///
+/// # Examples
 ///
 /// ```
 /// let file = b"btsnoop\0\x00\x00\x00\x01\x00\x00\x03\xEA";
@@ -111,7 +126,7 @@ pub struct EarlierRefusal {
 ///
 /// # Errors
 ///
-/// Those of [`record_at`](crate::record_at()), the first capture's before the second's.
+/// Those of [`record_at`], the first capture's before the second's.
 ///
 /// # Examples
 ///

@@ -17,6 +17,8 @@ mod kinds;
 pub use kinds::{Dependent, PduType, Phy};
 
 use crate::answer::{accepted, place_after};
+#[cfg(doc)]
+use crate::Reason;
 use crate::{write, Refusal};
 
 /// Octets of the pseudo-header.
@@ -100,7 +102,12 @@ pub struct Packet<'a> {
 }
 
 impl<'a> Packet<'a> {
-    /// Reads a pseudo-header and the packet behind it. Refusals: 1, 8, 7.
+    /// Reads a pseudo-header and the packet behind it.
+    ///
+    /// # Errors
+    ///
+    /// In this order: [`Reason::ShortHeader`]; [`Reason::LeValue`] for the RF channel, the PDU type, the PHY;
+    /// [`Reason::ShortPacket`] for a packet of less than 4 octets, 5 for [`Phy::Coded`].
     pub fn read(octets: &'a [u8]) -> Result<Packet<'a>, Refusal> {
         let answer = zalghimo_sys::le::read(octets);
         accepted(answer.head())?;
@@ -184,7 +191,11 @@ impl<'a> Packet<'a> {
 
 /// Writes a pseudo-header and its packet into an output at a place and answers the place after them.
 ///
-/// Refusals: 8, 7, 13; a refusal changes nothing, and an accepted write only the octets written.
+/// An accepted write changes only the octets written: 10 and the packet.
+///
+/// # Errors
+///
+/// In this order: [`Reason::LeValue`], [`Reason::ShortPacket`], [`Reason::NoRoom`]. Nothing is changed then.
 pub fn write(
     output: &mut [u8],
     place: usize,
@@ -204,7 +215,11 @@ pub fn write(
     ))
 }
 
-/// As [`write`](write()), at the end of the octets. Refusals: 8, 7; the octets are then as before.
+/// As [`write`](write()), at the end of the octets.
+///
+/// # Errors
+///
+/// In this order: [`Reason::LeValue`], [`Reason::ShortPacket`]. The octets are then as before.
 pub fn push(octets: &mut Vec<u8>, values: &Values, packet: &[u8]) -> Result<(), Refusal> {
     write::push(octets, HEADER + packet.len(), |output, place| {
         write(output, place, values, packet)

@@ -28,6 +28,8 @@ pub use field::{name, Field};
 pub use parts::{Fields, Words};
 
 use crate::answer::{accepted, place_after};
+#[cfg(doc)]
+use crate::Reason;
 use crate::{write, Refusal};
 use std::sync::Arc;
 use zalghimo_sys::{RADIOTAP_MOST_FIELDS, STOPPED};
@@ -67,7 +69,12 @@ pub enum Ending {
 }
 
 impl<'a> Header<'a> {
-    /// Reads a header in an edition. Refusals: 15, 1, 3, 9, 11, 10, 12; a header refused shows no field.
+    /// Reads a header in an edition. One that is refused shows no field.
+    ///
+    /// # Errors
+    ///
+    /// In this order: [`Reason::Edition`], [`Reason::ShortHeader`], [`Reason::Version`], [`Reason::RadiotapLength`];
+    /// word by word [`Reason::NinthWord`], [`Reason::WordPastLength`]; field by field [`Reason::FieldPastLength`].
     pub fn read(octets: &'a [u8], edition: u32) -> Result<Header<'a>, Refusal> {
         let mut numbers = [0; NUMBERS * RADIOTAP_MOST_FIELDS];
         let answer = zalghimo_sys::radiotap::fields(octets, edition, &mut numbers);
@@ -140,8 +147,13 @@ impl<'a> IntoIterator for &Header<'a> {
 
 /// Writes a header with one presence word into an output at a place and answers the place after it.
 ///
-/// The values are packed without gaps in bit order. Pad octets are 0. Refusals: 15, 18, 19, 13; a refusal changes
-/// nothing, and an accepted write only the octets written.
+/// The values are packed without gaps in bit order. Pad octets are 0. An accepted write changes only the octets
+/// written.
+///
+/// # Errors
+///
+/// In this order: [`Reason::Edition`], [`Reason::UnknownBit`], [`Reason::ValuesLength`], [`Reason::NoRoom`]. Nothing
+/// is changed then.
 pub fn write(
     output: &mut [u8],
     place: usize,
@@ -153,7 +165,11 @@ pub fn write(
     place_after(written)
 }
 
-/// As [`write`](write()), at the end of the octets. Refusals: 15, 18, 19; the octets are then as before.
+/// As [`write`](write()), at the end of the octets.
+///
+/// # Errors
+///
+/// In this order: [`Reason::Edition`], [`Reason::UnknownBit`], [`Reason::ValuesLength`]. The octets are then as before.
 pub fn push(
     octets: &mut Vec<u8>,
     edition: u32,

@@ -1,6 +1,8 @@
 //! One BTSnoop record.
 
 use crate::answer::accepted;
+#[cfg(doc)]
+use crate::Reason;
 use crate::{Refusal, Time};
 use zalghimo_sys::{btsnoop, END};
 
@@ -77,7 +79,11 @@ impl<'a> Record<'a> {
         self.fields.time_field
     }
 
-    /// Time in Unix seconds and microseconds, or refusal 14.
+    /// Time in Unix seconds and microseconds.
+    ///
+    /// # Errors
+    ///
+    /// [`Reason::Time`], as [`Time::from_field`] gives it. The record is whole all the same.
     pub fn time(&self) -> Result<Time, Refusal> {
         Time::from_field(self.fields.time_field)
     }
@@ -90,7 +96,10 @@ impl<'a> Record<'a> {
 
 /// Reads the record at a place, or `None` where the place is the input's end. The file header is not judged.
 ///
-/// Refusals: 17, 5, 6, 7.
+/// # Errors
+///
+/// In this order: [`Reason::RecordPlace`], [`Reason::ShortRecord`], [`Reason::IncludedAboveOriginal`],
+/// [`Reason::ShortPacket`].
 pub fn record_at(octets: &[u8], place: usize) -> Result<Option<Record<'_>>, Refusal> {
     let answer = btsnoop::record(octets, place);
     accepted(answer.head())?;
@@ -111,6 +120,8 @@ pub fn record_at(octets: &[u8], place: usize) -> Result<Option<Record<'_>>, Refu
 }
 
 /// The drops between two records, from their cumulative drops: later less earlier, modulo 2^32.
+///
+/// # Examples
 ///
 /// ```
 /// assert_eq!(zalghimo::drops_between(4_294_967_290, 5), 11);

@@ -1,10 +1,14 @@
 //! The running tally of a capture's records.
 
 use crate::answer::accepted;
+#[cfg(doc)]
+use crate::Reason;
 use crate::{Record, Refusal};
 use zalghimo_sys::btsnoop;
 
 /// A running tally, updated record by record. A new one is empty.
+///
+/// # Examples
 ///
 /// ```
 /// # use zalghimo::{push_header, push_record, Capture, RecordFields, Tally};
@@ -34,7 +38,11 @@ impl Tally {
         Tally { numbers }
     }
 
-    /// Adds a record. Refusal: 16, where a sum would pass 2^64 − 1; the tally is then as before.
+    /// Adds a record.
+    ///
+    /// # Errors
+    ///
+    /// [`Reason::TallySum`], where a sum would pass 2^64 − 1. The tally is then as before.
     pub fn add(&mut self, record: &Record) -> Result<(), Refusal> {
         let answer = btsnoop::tally(
             &mut self.numbers,

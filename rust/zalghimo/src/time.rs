@@ -1,6 +1,8 @@
 //! The time of a record.
 
 use crate::answer::accepted;
+#[cfg(doc)]
+use crate::Reason;
 use crate::Refusal;
 use std::time::{Duration, SystemTime, UNIX_EPOCH};
 use zalghimo_sys::btsnoop;
@@ -15,7 +17,11 @@ pub struct Time {
 }
 
 impl Time {
-    /// Converts a record's time field. Refusal: 14, where the time is before −2^63 microseconds.
+    /// Converts a record's time field.
+    ///
+    /// # Errors
+    ///
+    /// [`Reason::Time`], where the time is before −2^63 microseconds.
     pub fn from_field(field: i64) -> Result<Time, Refusal> {
         let answer = btsnoop::read_time(field);
         accepted(answer.head())?;
@@ -25,7 +31,13 @@ impl Time {
         })
     }
 
-    /// Converts to a record's time field. Refusal: 14, for microseconds above 999,999 or a field out of range.
+    /// Converts to a record's time field.
+    ///
+    /// # Errors
+    ///
+    /// [`Reason::Time`], for microseconds above 999,999 or a field out of range.
+    ///
+    /// # Examples
     ///
     /// ```
     /// let year_2000 = zalghimo::Time { seconds: 946_684_800, microseconds: 0 };

@@ -1,6 +1,8 @@
 //! Writing a BTSnoop file.
 
 use crate::answer::place_after;
+#[cfg(doc)]
+use crate::Reason;
 use crate::{RecordFields, Refusal};
 use zalghimo_sys::btsnoop;
 
@@ -10,16 +12,26 @@ const HEADER: usize = 16;
 /// Octets of a record before its packet.
 const RECORD: usize = 24;
 
-/// Writes a file header into an output at a place and answers the place after it. Refusals: 4, 13.
+/// Writes a file header into an output at a place and answers the place after it.
 ///
-/// A refusal changes nothing, and an accepted write only the octets written.
+/// An accepted write changes only the octets written.
+///
+/// # Errors
+///
+/// In this order: [`Reason::Datalink`], [`Reason::NoRoom`]. Nothing is changed then.
 pub fn write_header(output: &mut [u8], place: usize, datalink: u32) -> Result<usize, Refusal> {
     place_after(btsnoop::write_header(output, place, datalink))
 }
 
-/// Writes a record into an output at a place and answers the place after it. Refusals: 6, 13.
+/// Writes a record into an output at a place and answers the place after it.
 ///
-/// The included length is that of the packet. A refusal changes nothing, and an accepted write only the octets written.
+/// The included length is that of the packet. An accepted write changes only the octets written: 24 and the packet.
+///
+/// # Errors
+///
+/// In this order: [`Reason::IncludedAboveOriginal`], [`Reason::NoRoom`]. Nothing is changed then.
+///
+/// # Examples
 ///
 /// ```
 /// use zalghimo::{write_header, write_record, RecordFields};
@@ -48,14 +60,22 @@ pub fn write_record(
     ))
 }
 
-/// Writes a file header at the end of the octets. Refusal: 4; the octets are then as before.
+/// Writes a file header at the end of the octets.
+///
+/// # Errors
+///
+/// [`Reason::Datalink`]. The octets are then as before.
 pub fn push_header(octets: &mut Vec<u8>, datalink: u32) -> Result<(), Refusal> {
     push(octets, HEADER, |output, place| {
         write_header(output, place, datalink)
     })
 }
 
-/// Writes a record at the end of the octets. Refusal: 6; the octets are then as before.
+/// Writes a record at the end of the octets.
+///
+/// # Errors
+///
+/// [`Reason::IncludedAboveOriginal`]. The octets are then as before.
 pub fn push_record(
     octets: &mut Vec<u8>,
     fields: &RecordFields,
