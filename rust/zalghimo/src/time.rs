@@ -7,6 +7,9 @@ use crate::Refusal;
 use std::time::{Duration, SystemTime, UNIX_EPOCH};
 use zalghimo_sys::btsnoop;
 
+/// Microseconds of a second.
+const MICROSECONDS: u32 = 1_000_000;
+
 /// Unix time: seconds, rounded down, and microseconds.
 #[derive(Clone, Copy, Debug, Default, PartialEq, Eq, PartialOrd, Ord, Hash)]
 pub struct Time {
@@ -50,8 +53,36 @@ impl Time {
         Ok(answer.field)
     }
 
-    /// The time on the system's clock, where that can express it.
+    /// Converts a time on the system's clock, rounded down to the microsecond, before 1970 too. `None` where its
+    /// seconds are no `i64`. [`Time::to_field`] makes it a record's, and refuses what a record cannot hold.
+    ///
+    /// # Examples
+    ///
+    /// ```
+    /// use std::time::{Duration, UNIX_EPOCH};
+    /// use zalghimo::Time;
+    ///
+    /// let time = Time::from_system_time(UNIX_EPOCH - Duration::from_nanos(1));
+    /// assert_eq!(time, Some(Time { seconds: -1, microseconds: 999_999 }));
+    /// ```
+    pub fn from_system_time(time: SystemTime) -> Option<Time> {
+        let nanoseconds = match time.duration_since(UNIX_EPOCH) {
+            Ok(after) => after.as_nanos() as i128,
+            Err(before) => -(before.duration().as_nanos() as i128),
+        };
+        let microseconds = nanoseconds.div_euclid(1000);
+        let second = i128::from(MICROSECONDS);
+        Some(Time {
+            seconds: microseconds.div_euclid(second).try_into().ok()?,
+            microseconds: microseconds.rem_euclid(second) as u32,
+        })
+    }
+
+    /// The time on the system's clock, or `None` for microseconds above 999,999 or where the clock cannot express it.
     pub fn system_time(self) -> Option<SystemTime> {
+        if self.microseconds >= MICROSECONDS {
+            return None;
+        }
         let seconds = Duration::from_secs(self.seconds.unsigned_abs());
         let second = match self.seconds {
             0.. => UNIX_EPOCH.checked_add(seconds),

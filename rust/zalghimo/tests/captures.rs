@@ -4,7 +4,7 @@ mod made;
 
 use made::{file, refused, RESET, RESET_FIELDS};
 use std::collections::HashSet;
-use std::time::{Duration, UNIX_EPOCH};
+use std::time::{Duration, SystemTime, UNIX_EPOCH};
 use zalghimo::{check, earlier, record_at, survey, Capture, RecordFields, Tally, Time, Which};
 
 /// Three records whose numbers all differ; the second is cut and the third empty.
@@ -148,6 +148,43 @@ fn times_on_the_system_clock() {
         UNIX_EPOCH.checked_sub(micro)
     );
     assert_eq!(time(0, 1).system_time(), UNIX_EPOCH.checked_add(micro));
+    assert!(time(0, 999_999).system_time().is_some());
+    assert_eq!(time(0, 1_000_000).system_time(), None);
+    assert_eq!(time(-1, u32::MAX).system_time(), None);
+}
+
+#[test]
+fn times_from_the_system_clock_are_rounded_down() {
+    let parts = |time| {
+        let time = Time::from_system_time(time).expect("expressed");
+        (time.seconds, time.microseconds)
+    };
+    let nanos = Duration::from_nanos;
+    assert_eq!(parts(UNIX_EPOCH), (0, 0));
+    assert_eq!(parts(UNIX_EPOCH + nanos(999)), (0, 0));
+    assert_eq!(parts(UNIX_EPOCH + nanos(1000)), (0, 1));
+    assert_eq!(parts(UNIX_EPOCH + nanos(1_999_999_999)), (1, 999_999));
+    assert_eq!(parts(UNIX_EPOCH - nanos(1)), (-1, 999_999));
+    assert_eq!(parts(UNIX_EPOCH - nanos(1000)), (-1, 999_999));
+    assert_eq!(parts(UNIX_EPOCH - nanos(1001)), (-1, 999_998));
+    assert_eq!(parts(UNIX_EPOCH - nanos(1_000_000_000)), (-1, 0));
+    assert_eq!(parts(UNIX_EPOCH - nanos(1_000_000_001)), (-2, 999_999));
+}
+
+#[test]
+fn times_go_to_the_system_clock_and_back() {
+    for seconds in [i64::MIN, -946_684_800, -1, 0, 1, 946_684_800, i64::MAX] {
+        for microseconds in [0, 1, 999_999] {
+            let time = Time {
+                seconds,
+                microseconds,
+            };
+            let clock = time.system_time().expect("expressed");
+            assert_eq!(Time::from_system_time(clock), Some(time));
+        }
+    }
+    let now = Time::from_system_time(SystemTime::now()).expect("expressed");
+    assert_eq!(now.to_field().and_then(Time::from_field), Ok(now));
 }
 
 #[test]
