@@ -14,7 +14,7 @@
 
 mod kinds;
 
-pub use kinds::{Dependent, PduType, Phy};
+pub use kinds::{AuxiliaryKind, Dependent, PduType, Phy};
 
 use crate::answer::{accepted, place_after};
 #[cfg(doc)]
@@ -75,6 +75,12 @@ impl Values {
     /// With this PDU type in the flags.
     pub fn with_pdu_type(mut self, pdu_type: PduType) -> Values {
         self.flags = self.flags & !(0b111 << 7) | (pdu_type as u16) << 7;
+        self
+    }
+
+    /// With flags bits 12 and 13 that say this. The PDU type, which decides how they are read, stays as it is.
+    pub fn with_dependent(mut self, dependent: Dependent) -> Values {
+        self.flags = self.flags & !(0b11 << 12) | u16::from(dependent.bits()) << 12;
         self
     }
 
@@ -174,7 +180,8 @@ impl<'a> Packet<'a> {
         self.phy
     }
 
-    /// What flags bits 12 and 13 say for this PDU type.
+    /// What flags bits 12 and 13 say for this PDU type: for type 1 the auxiliary kind, otherwise MIC checked (bit 12)
+    /// and MIC passed (bit 13).
     pub fn dependent(&self) -> Dependent {
         self.dependent
     }

@@ -3,7 +3,7 @@
 mod made;
 
 use made::{file, p3};
-use zalghimo::le::{self, Dependent, Packet, PduType, Phy, Values};
+use zalghimo::le::{self, AuxiliaryKind, Dependent, Packet, PduType, Phy, Values};
 use zalghimo::radiotap::{self, Ending, Field, Fields, Header, Words};
 use zalghimo::{push_header, push_record, write_header, write_record, Capture};
 
@@ -176,13 +176,54 @@ fn le_values_are_known_or_not() {
             assert_eq!(read.reference_address(), Some(0x8E89_BED6));
             assert_eq!(read.packet(), [1, 2, 3, 4, 5]);
             let dependent = match pdu_type {
-                PduType::AuxiliaryAdvertising => Dependent::AuxiliaryKind(3),
+                PduType::AuxiliaryAdvertising => {
+                    Dependent::AuxiliaryKind(AuxiliaryKind::ScanResponse)
+                }
                 _ => Dependent::Mic {
                     checked: true,
                     passed: true,
                 },
             };
             assert_eq!(read.dependent(), dependent);
+        }
+    }
+}
+
+/// Flags that say this for a PDU type, every other bit set that may be, and what is read of them.
+fn dependent(pdu_type: PduType, dependent: Dependent) -> (u16, Dependent) {
+    let values = Values {
+        flags: 0xBFFF,
+        ..Default::default()
+    };
+    let values = values.with_pdu_type(pdu_type).with_dependent(dependent);
+    let mut octets = Vec::new();
+    le::push(&mut octets, &values, &[0; 5]).expect("written");
+    let read = Packet::read(&octets).expect("accepted");
+    assert_eq!((read.flags(), read.pdu_type()), (values.flags, pdu_type));
+    (values.flags, read.dependent())
+}
+
+#[test]
+fn le_bits_12_and_13_are_the_auxiliary_kind_for_type_1() {
+    for (number, kind) in (0..).zip(AuxiliaryKind::ALL) {
+        let kind = Dependent::AuxiliaryKind(kind);
+        let flags = 0x8CFF | number << 12;
+        let read = dependent(PduType::AuxiliaryAdvertising, kind);
+        assert_eq!(read, (flags, kind));
+    }
+}
+
+#[test]
+fn le_bits_12_and_13_are_the_mic_for_other_types() {
+    let others = PduType::ALL
+        .into_iter()
+        .filter(|pdu_type| *pdu_type as u16 != 1);
+    for pdu_type in others {
+        for (checked, passed) in [(false, false), (true, false), (false, true), (true, true)] {
+            let mic = Dependent::Mic { checked, passed };
+            let bits = if checked { 0x1000 } else { 0 } | if passed { 0x2000 } else { 0 };
+            let flags = 0x8C7F | (pdu_type as u16) << 7 | bits;
+            assert_eq!(dependent(pdu_type, mic), (flags, mic));
         }
     }
 }

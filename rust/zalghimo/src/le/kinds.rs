@@ -48,16 +48,39 @@ impl Phy {
     pub const ALL: [Phy; 3] = [Phy::OneM, Phy::TwoM, Phy::Coded];
 }
 
+/// Auxiliary kind: flags bits 12 and 13 for PDU type 1, [`PduType::AuxiliaryAdvertising`].
+#[derive(Clone, Copy, Debug, PartialEq, Eq, Hash)]
+pub enum AuxiliaryKind {
+    /// AUX_ADV_IND.
+    Advertising = 0,
+    /// AUX_CHAIN_IND.
+    Chain = 1,
+    /// AUX_SYNC_IND.
+    Sync = 2,
+    /// AUX_SCAN_RSP.
+    ScanResponse = 3,
+}
+
+impl AuxiliaryKind {
+    /// All kinds, by their number.
+    pub const ALL: [AuxiliaryKind; 4] = [
+        AuxiliaryKind::Advertising,
+        AuxiliaryKind::Chain,
+        AuxiliaryKind::Sync,
+        AuxiliaryKind::ScanResponse,
+    ];
+}
+
 /// What flags bits 12 and 13 say, which depends on the PDU type.
 #[derive(Clone, Copy, Debug, PartialEq, Eq, Hash)]
 pub enum Dependent {
-    /// Auxiliary advertising: its kind, 0 to 3 (AUX_ADV_IND, AUX_CHAIN_IND, AUX_SYNC_IND, AUX_SCAN_RSP).
-    AuxiliaryKind(u8),
+    /// PDU type 1: the auxiliary kind, the number of both bits.
+    AuxiliaryKind(AuxiliaryKind),
     /// Every other type: the MIC of a decrypted packet.
     Mic {
-        /// It was checked.
+        /// It was checked: bit 12, 0x1000.
         checked: bool,
-        /// It passed its check.
+        /// It passed its check: bit 13, 0x2000.
         passed: bool,
     },
 }
@@ -66,11 +89,21 @@ impl Dependent {
     /// What the two bits say.
     pub(super) fn of(pdu_type: PduType, bits: u8) -> Dependent {
         match pdu_type {
-            PduType::AuxiliaryAdvertising => Dependent::AuxiliaryKind(bits),
+            PduType::AuxiliaryAdvertising => {
+                Dependent::AuxiliaryKind(AuxiliaryKind::ALL[bits as usize])
+            }
             _ => Dependent::Mic {
                 checked: bits & 1 != 0,
                 passed: bits & 2 != 0,
             },
+        }
+    }
+
+    /// The two bits that say it.
+    pub(super) fn bits(self) -> u8 {
+        match self {
+            Dependent::AuxiliaryKind(kind) => kind as u8,
+            Dependent::Mic { checked, passed } => u8::from(checked) | u8::from(passed) << 1,
         }
     }
 }
