@@ -20,6 +20,41 @@
 //! assert_eq!(older.ending(), Ending::Stop { word: 0, bit: 14 });
 //! # Ok::<(), zalghimo::Refusal>(())
 //! ```
+//!
+//! # The fields
+//!
+//! Alignment and size in octets, and the first edition that knows the field:
+//!
+//! | Bit | Field | Alignment | Size | First edition |
+//! |---|---|---|---|---|
+//! | 0 | TSFT | 8 | 8 | 1 |
+//! | 1 | Flags | 1 | 1 | 1 |
+//! | 2 | Rate | 1 | 1 | 1 |
+//! | 3 | Channel | 2 | 4 | 1 |
+//! | 4 | FHSS | 2 | 2 | 1 |
+//! | 5 | Antenna signal | 1 | 1 | 1 |
+//! | 6 | Antenna noise | 1 | 1 | 1 |
+//! | 7 | Lock quality | 2 | 2 | 1 |
+//! | 8 | TX attenuation | 2 | 2 | 1 |
+//! | 9 | dB TX attenuation | 2 | 2 | 1 |
+//! | 10 | dBm TX power | 1 | 1 | 1 |
+//! | 11 | Antenna | 1 | 1 | 1 |
+//! | 12 | dB antenna signal | 1 | 1 | 1 |
+//! | 13 | dB antenna noise | 1 | 1 | 1 |
+//! | 14 | RX flags | 2 | 2 | 2 |
+//! | 15 | TX flags | 2 | 2 | 2 |
+//! | 16 | RTS retries | 1 | 1 | 2 |
+//! | 17 | data retries | 1 | 1 | 2 |
+//! | 19 | MCS | 1 | 3 | 3 |
+//! | 20 | A-MPDU status | 4 | 8 | 3 |
+//! | 21 | VHT | 2 | 12 | 3 |
+//!
+//! Bits 18 and 22 to 28 are known to no edition. Bits 5, 6 and 10 are signed dBm.
+//!
+//! A field starts at the next multiple of its alignment, counted from the header's start. A writer takes the values
+//! packed: one after another in bit order, each of its size, without the octets between them. What it writes has 8
+//! octets and then the fields, each at its place, and ends with the last one. All fields of edition 3 take 68 octets,
+//! and fewer fields never take more.
 
 mod field;
 mod parts;

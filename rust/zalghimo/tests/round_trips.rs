@@ -2,7 +2,7 @@
 
 mod made;
 
-use made::{file, p3};
+use made::{file, p3, table};
 use zalghimo::le::{self, AuxiliaryKind, Dependent, Packet, PduType, Phy, Values};
 use zalghimo::radiotap::{self, Ending, Field, Fields, Header, Words};
 use zalghimo::{push_header, push_record, write_header, write_record, Capture};
@@ -29,37 +29,13 @@ fn a_capture_is_written_to_its_own_octets() {
     }
 }
 
-/// Octets packed for each bit, in bit order.
-const SIZES: [(u32, usize); 21] = [
-    (0, 8),
-    (1, 1),
-    (2, 1),
-    (3, 4),
-    (4, 2),
-    (5, 1),
-    (6, 1),
-    (7, 2),
-    (8, 2),
-    (9, 2),
-    (10, 1),
-    (11, 1),
-    (12, 1),
-    (13, 1),
-    (14, 2),
-    (15, 2),
-    (16, 1),
-    (17, 1),
-    (19, 3),
-    (20, 8),
-    (21, 12),
-];
-
 #[test]
 fn radiotap_fields_come_out_as_written() {
-    let all: u32 = SIZES.iter().map(|(bit, _)| 1 << bit).sum();
+    let table = table();
+    let all: u32 = table.iter().map(|row| 1 << row.bit).sum();
     for presence in [0, 1, 0x2F, 0x0010_0002, 0x0028_4421, all] {
-        let chosen = SIZES.iter().filter(|(bit, _)| presence >> bit & 1 == 1);
-        let count: usize = chosen.clone().map(|(_, size)| size).sum();
+        let chosen = table.iter().filter(|row| presence >> row.bit & 1 == 1);
+        let count: usize = chosen.clone().map(|row| row.size).sum();
         let values: Vec<u8> = (0..count).map(|index| 200 + index as u8 % 50).collect();
         let mut octets = vec![0xEE; 3];
         radiotap::push(&mut octets, 3, presence, &values).expect("written");
@@ -69,7 +45,7 @@ fn radiotap_fields_come_out_as_written() {
         assert!(header
             .fields()
             .map(|field| field.bit())
-            .eq(chosen.map(|(bit, _)| *bit)));
+            .eq(chosen.map(|row| row.bit)));
         let read: Vec<u8> = header
             .fields()
             .flat_map(|field| field.octets().to_vec())

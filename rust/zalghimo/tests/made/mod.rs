@@ -58,6 +58,34 @@ pub fn radiotap(words: &[u32], length: u16) -> Vec<u8> {
     octets
 }
 
+/// A row of the radiotap table.
+pub struct Row {
+    pub bit: u32,
+    pub name: &'static str,
+    pub alignment: usize,
+    pub size: usize,
+    pub first_edition: u32,
+}
+
+/// The radiotap table, from the documentation.
+pub fn table() -> Vec<Row> {
+    let source = include_str!("../../src/radiotap.rs");
+    let lines = source.lines().filter_map(|line| line.strip_prefix("//! |"));
+    lines.skip(2).map(row).collect()
+}
+
+fn row(line: &'static str) -> Row {
+    let cells: Vec<&str> = line.split('|').map(str::trim).collect();
+    let number = |cell: usize| cells[cell].parse::<u32>().expect("a number");
+    Row {
+        bit: number(0),
+        name: cells[1],
+        alignment: number(2) as usize,
+        size: number(3) as usize,
+        first_edition: number(4),
+    }
+}
+
 /// An LE pseudo-header and packet of 14 octets, all others 0.
 pub fn le(rf_channel: u8, flags: u16) -> Vec<u8> {
     let mut octets = vec![0; 14];
