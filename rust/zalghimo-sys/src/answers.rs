@@ -1,5 +1,8 @@
 //! The structs that the functions answer.
 
+// Rust before 1.80 does not have it in the prelude.
+use std::mem::size_of;
+
 /// Declares a struct of kind, number, place and these fields.
 macro_rules! answer {
     ($(#[$about:meta])* $name:ident $(, $field:ident: $number:ty)* $(,)?) => {
