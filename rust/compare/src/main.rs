@@ -70,8 +70,10 @@ fn main() -> ExitCode {
             progress.round(&session.report);
         }
     }
-    progress.finish();
-    if session.report.finish() {
+    progress.finish(&session.report);
+    let inputs = progress.inputs();
+    let run = format!("{count} rounds of each, seed {seed}, {inputs} inputs");
+    if session.report.finish(&run) {
         ExitCode::SUCCESS
     } else {
         ExitCode::FAILURE

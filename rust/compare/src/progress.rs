@@ -43,9 +43,14 @@ impl Progress {
         }
     }
 
+    /// The inputs of all formats.
+    pub fn inputs(&self) -> u64 {
+        self.formats.iter().map(|(_, inputs)| inputs).sum()
+    }
+
     /// Writes the line; a terminal's line is written over.
     fn show(&self, report: &Report) {
-        let total: u64 = self.formats.iter().map(|(_, inputs)| inputs).sum();
+        let total = self.inputs();
         let each = |(name, inputs): &(&str, u64)| format!("{name} {inputs}");
         let formats: Vec<String> = self.formats.iter().map(each).collect();
         let line = format!(
@@ -61,10 +66,13 @@ impl Progress {
         }
     }
 
-    /// Clears a terminal's line.
-    pub fn finish(&self) {
+    /// Writes the line a last time, for the whole run, and leaves it.
+    pub fn finish(&self, report: &Report) {
+        if self.shown {
+            self.show(report);
+        }
         if self.shown && self.terminal {
-            eprint!("\r\x1b[K");
+            eprintln!();
         }
     }
 }

@@ -66,13 +66,13 @@ impl Report {
         self.differences
     }
 
-    /// Prints the counts; true when nothing differed.
-    pub fn finish(&self) -> bool {
+    /// Prints the counts, and on the last line also which run it was; true when nothing differed.
+    pub fn finish(&self, run: &str) -> bool {
         for (function, count) in &self.counts {
             println!("{count:>10}  {function}");
         }
         println!(
-            "comparison: {} answers compared, {} differences",
+            "comparison: {run}, {} answers compared, {} differences",
             self.answers(),
             self.differences
         );
