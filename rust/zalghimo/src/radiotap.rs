@@ -49,7 +49,8 @@
 //! | 20 | A-MPDU status | 4 | 8 | 3 |
 //! | 21 | VHT | 2 | 12 | 3 |
 //!
-//! Bits 18 and 22 to 28 are known to no edition. Bits 5, 6 and 10 are signed dBm.
+//! Bits 18, 22 to 28 and 30 stop the reading in every edition; bits 29 and 31 carry no field. Bits 5, 6 and 10 are
+//! signed dBm.
 //!
 //! A field starts at the next multiple of its alignment, counted from the header's start. A writer takes the values
 //! packed: one after another in bit order, each of its size, without the octets between them. What it writes has 8
@@ -182,8 +183,8 @@ impl<'a> IntoIterator for &Header<'a> {
 
 /// Writes a header with one presence word into an output at a place and answers the place after it.
 ///
-/// The values are packed without gaps in bit order. Pad octets are 0. An accepted write changes only the octets
-/// written.
+/// The values are packed without gaps in bit order, each of the size that [the table](self#the-fields) gives. Pad
+/// octets are 0. An accepted write changes only the octets written, at most 68.
 ///
 /// # Errors
 ///

@@ -34,12 +34,16 @@ fn fields_lie_as_the_table_says() {
 }
 
 #[test]
-fn bits_without_a_row_are_not_known() {
+fn bits_without_a_row_stop_the_reading_or_carry_no_field() {
     let known: Vec<u32> = table().iter().map(|row| row.bit).collect();
-    for bit in (0..29).filter(|bit| !known.contains(bit)) {
+    for bit in (0..31).filter(|bit| !known.contains(bit)) {
         let octets = after_17(bit);
         let header = Header::read(&octets, 3).expect("accepted");
-        assert_eq!(header.ending(), Ending::Stop { word: 2, bit });
+        let ending = match bit {
+            29 => Ending::End,
+            _ => Ending::Stop { word: 2, bit },
+        };
+        assert_eq!((header.ending(), header.fields().len()), (ending, 1));
     }
 }
 
