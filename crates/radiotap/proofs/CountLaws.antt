@@ -24,8 +24,8 @@ use Rattle.radiotap_head.specs.Says.{wordInside}
 use Rattle.radiotap_rules.proofs.Steps.{headed}
 use Rattle.radiotap_table.specs.declared.Span.{Span}
 use Rattle.radiotap_table.specs.Says.{SpannedAs}
-use Rattle.radiotap_table.specs.Bits.{KnownBits, Carries}
-use Rattle.radiotap_table.proofs.SetLaws.{trailing-below}
+use Rattle.radiotap_bits.specs.Bits.{KnownBits, Carries}
+use Rattle.radiotap_bits.proofs.SetLaws.{trailing-below}
 use Rattle.radiotap_step.proofs.StepLaws.{Reached, starts, ends}
 use Rattle.radiotap_step.proofs.WordLaws.{Standing, opens, stops-here, passes-word, bit-small, start, starts-near, refuses-past, behind, meets-field, stands-behind}
 use Rattle.radiotap.proofs.WalkLaws.{SoFar, begins, countable, passes}

@@ -108,7 +108,7 @@ fn count(s: &[u8], edition: u32, head: Head) -> ReadAnswer
     requires { ⌜ headAt (now s) ≡ given head ⌝ }
     ensures { λ r. ⌜ readSays r ≡ summarised (getD (now (s .entry)) 1 0) head (outcome 0 (readWords ourRules edition (now (s .entry)) (head .size) (presenceWords (now (s .entry)) (head .size)))) ⌝ }
 {
-    let known = radiotap_table::known(edition);
+    let known = radiotap_bits::known(edition);
     let pad = octets::octet(s, 1, 0);
     let size = head.size as usize;
     let words = head.words as u32;
@@ -117,7 +117,7 @@ fn count(s: &[u8], edition: u32, head: Head) -> ReadAnswer
     let mut last = 3 + 4 * words as usize;
     let mut fields: usize = 0;
     loop {
-        let carried = radiotap_table::carries(word, known);
+        let carried = radiotap_bits::carries(word, known);
         let mut left = carried.shown;
         while left != 0 {
             let span = radiotap_table::span_of(u32::trailing_zeros(left) as usize);

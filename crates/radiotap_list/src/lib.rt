@@ -81,7 +81,7 @@ fn list(s: &[u8], edition: u32, head: Head, room: usize, out: &mut [u64]) -> Rea
     ensures { λ r. ⌜ readSays r ≡ summarised (getD (now (s .entry)) 1 0) head (outcome 0 (readWords ourRules edition (now (s .entry)) (head .size) (presenceWords (now (s .entry)) (head .size)))) ⌝ }
     ensures { λ _. ⌜ now (out .exit) ≡ splice (now (out .entry)) 0 (listed (firstFields ourRules edition (now (s .entry)) room (firstCursor head))) ⌝ }
 {
-    let known = radiotap_table::known(edition);
+    let known = radiotap_bits::known(edition);
     let pad = octets::octet(s, 1, 0);
     let size = head.size as usize;
     let words = head.words as u32;
@@ -90,7 +90,7 @@ fn list(s: &[u8], edition: u32, head: Head, room: usize, out: &mut [u64]) -> Rea
     let mut last = 3 + 4 * words as usize;
     let mut fields = 0;
     loop {
-        let carried = radiotap_table::carries(word, known);
+        let carried = radiotap_bits::carries(word, known);
         let mut left = carried.shown;
         while left != 0 {
             let bit = u32::trailing_zeros(left);

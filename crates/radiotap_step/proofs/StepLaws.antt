@@ -17,7 +17,7 @@ use Rattle.radiotap_rules.specs.Rules.{Rules, rowOf, knows}
 use Rattle.radiotap_rules.specs.Reading.{fieldPast, wordBits, wordAt, bitAt, bitSet, present, nothing, unknownHere, field, meaning, aligned, ended}
 use Rattle.radiotap_rules.specs.Steps.{wordsFor, wordsOf, Met, refusedStep, over, met, metMeaning, metFrom, stepOf}
 use Rattle.radiotap_rules.specs.Answers.{unknownField, lies, layOf}
-use Rattle.radiotap_table.specs.Bits.{NextSet}
+use Rattle.radiotap_bits.specs.Bits.{NextSet}
 use Rattle.radiotap_step.specs.Met.{metLaid}
 
 -- a cursor has its own word where its position lies, and the input's words elsewhere

@@ -19,9 +19,9 @@ use Rattle.radiotap_rules.specs.Steps.{refusedStep, over, met, stepOf}
 use Rattle.radiotap_rules.specs.Answers.{lies, layOf}
 use Rattle.radiotap_table.specs.declared.Span.{Span}
 use Rattle.radiotap_table.specs.Says.{SpannedAs}
-use Rattle.radiotap_table.specs.Bits.{KnownBits, bare, carriesField, LeftFrom, StopsAt}
+use Rattle.radiotap_bits.specs.Bits.{KnownBits, bare, carriesField, LeftFrom, StopsAt}
 use Rattle.radiotap_table.proofs.RowLaws.{lay-near, lay-unknown, span-lies}
-use Rattle.radiotap_table.proofs.LeftLaws.{first-small, first-low, first-below, first-carries, first-between, left-next, left-none}
+use Rattle.radiotap_bits.proofs.LeftLaws.{first-small, first-low, first-below, first-carries, first-between, left-next, left-none}
 use Rattle.radiotap_step.specs.Met.{metLaid}
 use Rattle.radiotap_step.proofs.StepLaws.{Reached, starts, onward, meets, laid-inside, laid-past}
 

@@ -38,7 +38,7 @@ pub fn next(s: &[u8], edition: u32, cursor: Cursor) -> Step
     let mut bits = cursor.bits;
     while position / 32 < cursor.words as u32 {
         let word = position / 32;
-        let bit = radiotap_table::next_set(bits, position % 32);
+        let bit = radiotap_bits::next_set(bits, position % 32);
         if bit < 31 {
             if bit != 29 {
                 return meet(edition, cursor, word, bit, bits);

@@ -17,7 +17,7 @@ use Rattle.radiotap_rules.specs.Writing.{isField, writableFrom, writable, Plann
 use Rattle.radiotap_rules.specs.Rewriting.{lastEnd}
 use Rattle.radiotap_rules.proofs.Walks.{by-meaning}
 use Rattle.radiotap_rules.proofs.Planning.{aligned-after, known-from, known-aligned, clear-nothing}
-use Rattle.radiotap_table.specs.Bits.{NextSet}
+use Rattle.radiotap_bits.specs.Bits.{NextSet}
 use Rattle.radiotap_table.proofs.RowLaws.{lay-near}
 
 -- a row that some edition knows is of no edition above the newest

@@ -16,7 +16,7 @@ use Rattle.radiotap_rules.specs.Rules.{Rules}
 use Rattle.radiotap_rules.specs.Reading.{fixedLength, wordBits}
 use Rattle.radiotap_rules.specs.Answers.{unknownField, layOf}
 use Rattle.radiotap_rules.specs.Writing.{writable, Planned, plan, summed, laid, headerOctets}
-use Rattle.radiotap_table.specs.Bits.{NextSet}
+use Rattle.radiotap_bits.specs.Bits.{NextSet}
 use Rattle.radiotap_write.proofs.PlanLaws.{knownOn, planOn, Reached, Met, reached-first, met-unknown, reached-next}
 
 -- so many of the pad octets

@@ -68,7 +68,7 @@ fn planned(edition: u32, presence: u32) -> Plan
 {
     let mut at = FIXED_LENGTH;
     let mut summed = 0;
-    let mut bit = radiotap_table::next_set(presence, 0);
+    let mut bit = radiotap_bits::next_set(presence, 0);
     while bit < WORD_BITS {
         match radiotap_table::lay(edition, bit as usize, at) {
             Layout::Unknown => {
@@ -78,7 +78,7 @@ fn planned(edition: u32, presence: u32) -> Plan
                 let long = size as usize;
                 at = (start + long) as u32;
                 summed += long;
-                bit = radiotap_table::next_set(presence, bit + 1);
+                bit = radiotap_bits::next_set(presence, bit + 1);
             }
         }
     }
@@ -115,7 +115,7 @@ fn put_fields(out: &mut [u8], place: usize, edition: u32, presence: u32, values:
 {
     let mut free = FIXED_LENGTH;
     let mut used = 0;
-    let mut bit = radiotap_table::next_set(presence, 0);
+    let mut bit = radiotap_bits::next_set(presence, 0);
     while bit < WORD_BITS {
         match radiotap_table::lay(edition, bit as usize, free) {
             Layout::Unknown => {
@@ -128,7 +128,7 @@ fn put_fields(out: &mut [u8], place: usize, edition: u32, presence: u32, values:
                 octets_put::put(out, place + start, octets::part(values, used, long));
                 free = (start + long) as u32;
                 used += long;
-                bit = radiotap_table::next_set(presence, bit + 1);
+                bit = radiotap_bits::next_set(presence, bit + 1);
             }
         }
     }

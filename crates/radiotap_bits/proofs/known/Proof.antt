@@ -1,11 +1,11 @@
--- `radiotap_table::known` meets its contract: the bits of each edition are gathered for that edition.
+-- `radiotap_bits::known` meets its contract: the bits of each edition are gathered for that edition.
 -- Assumes nothing.
 use Prim.Native.Nat.{ℕ}
 use mathlib.Core.Path.{sym, subst}
 use borrow.Author.Needs.{needs}
-use Rattle.radiotap_table.specs.Bits.{KnownBits}
-use Rattle.radiotap_table.proofs.known.Statement.{statement}
-use Rattle.radiotap_table.proofs.known.Tie as tie
+use Rattle.radiotap_bits.specs.Bits.{KnownBits}
+use Rattle.radiotap_bits.proofs.known.Statement.{statement}
+use Rattle.radiotap_bits.proofs.known.Tie as tie
 
 gathered-requires : tie.Need-gathered-requires
 gathered-requires c κs = search needs

@@ -1,13 +1,13 @@
--- `radiotap_table::next_set` meets its contract: the bits from a place on are those of the word shifted right, whose trailing zeros count up to the first set one.
+-- `radiotap_bits::next_set` meets its contract: the bits from a place on are those of the word shifted right, whose trailing zeros count up to the first set one.
 -- Assumes nothing.
 use borrow.Author.Needs.{needs}
 use native.Mathlib.Omega.{arith}
 use native.Mathlib.Nat.{le-of-lt, add-le-add}
 use lib.Count.{trailing-le}
 use mir.Facts.{fits-below}
-use Rattle.radiotap_table.proofs.SetLaws.{next-past, next-none, next-found}
-use Rattle.radiotap_table.proofs.next_set.Statement.{statement}
-use Rattle.radiotap_table.proofs.next_set.Tie as tie
+use Rattle.radiotap_bits.proofs.SetLaws.{next-past, next-none, next-found}
+use Rattle.radiotap_bits.proofs.next_set.Statement.{statement}
+use Rattle.radiotap_bits.proofs.next_set.Tie as tie
 
 returns : tie.Need-returns
 returns c = next-past (c .before .args .word) (c .before .args .from) (c .if1 .taken)

@@ -1,9 +1,9 @@
--- `radiotap_table::knows` meets its contract: by the two tests of the first edition.
+-- `radiotap_bits::knows` meets its contract: by the two tests of the first edition.
 -- Assumes nothing.
 use native.Mathlib.Omega.{arith}
-use Rattle.radiotap_table.proofs.KnownLaws.{one-none, one-later, one-known}
-use Rattle.radiotap_table.proofs.knows.Statement.{statement}
-use Rattle.radiotap_table.proofs.knows.Tie as tie
+use Rattle.radiotap_bits.proofs.KnownLaws.{one-none, one-later, one-known}
+use Rattle.radiotap_bits.proofs.knows.Statement.{statement}
+use Rattle.radiotap_bits.proofs.knows.Tie as tie
 
 returns : tie.Need-returns
 returns c = let a = c .before .args in one-none (a .first) (a .edition) (c .if1 .taken)

@@ -1,11 +1,11 @@
--- `radiotap_table::gathered` meets its contract: the loop keeps that the bits from the row reached on are gathered (`KnownFrom`).
+-- `radiotap_bits::gathered` meets its contract: the loop keeps that the bits from the row reached on are gathered (`KnownFrom`).
 -- Assumes nothing.
 use Prim.Native.Nat.{_+_, _-_, _*_, _≤_}
 use native.Mathlib.Omega.{arith}
 use borrow.Author.Needs.{needs}
-use Rattle.radiotap_table.proofs.KnownLaws.{KnownFrom, known-first, known-small, known-next, known-all}
-use Rattle.radiotap_table.proofs.gathered.Statement.{statement}
-use Rattle.radiotap_table.proofs.gathered.Tie as tie
+use Rattle.radiotap_bits.proofs.KnownLaws.{KnownFrom, known-first, known-small, known-next, known-all}
+use Rattle.radiotap_bits.proofs.gathered.Statement.{statement}
+use Rattle.radiotap_bits.proofs.gathered.Tie as tie
 
 abbrev Inv-loop : tie.InvT-loop
 Inv-loop edition rows bits₀ bit₀ bits bit = KnownFrom edition bit bits

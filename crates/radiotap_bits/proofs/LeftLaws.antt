@@ -10,8 +10,8 @@ use lib.Dec.{eqb}
 use lib.Bits.{bitAnd, bitXor, differ, and-step, and-le-l, and-le-r, and-shr, and-self, xor-step, xor-shr, xor-lt}
 use lib.Count.{trailingZeros, under, trailing-le, trailing-of-zero}
 use Rattle.radiotap_rules.specs.Reading.{bitSet, wordBits}
-use Rattle.radiotap_table.specs.Bits.{bare, carriesField, LeftFrom, StopsAt, Carries}
-use Rattle.radiotap_table.proofs.SetLaws.{bit-shifted, bit-zero, trailing-clear, trailing-set, trailing-below}
+use Rattle.radiotap_bits.specs.Bits.{bare, carriesField, LeftFrom, StopsAt, Carries}
+use Rattle.radiotap_bits.proofs.SetLaws.{bit-shifted, bit-zero, trailing-clear, trailing-set, trailing-below}
 
 -- two digits of a number: both set, and the first set without the second
 and-digits : (x y : ℕ) → x < 2 → y < 2 → eqb (min x y) 1 ≡ (eqb x 1 && eqb y 1)

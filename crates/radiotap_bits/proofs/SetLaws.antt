@@ -9,7 +9,7 @@ use lib.Dec.{eqb}
 use lib.Pow.{shr-shr, shr-lt}
 use lib.Count.{trailingZeros, under}
 use Rattle.radiotap_rules.specs.Reading.{bitSet, wordBits}
-use Rattle.radiotap_table.specs.Bits.{NextSet}
+use Rattle.radiotap_bits.specs.Bits.{NextSet}
 
 -- a bit from a place on is a bit of the number shifted right by that place
 pub bit-shifted : (n k i j : ℕ) → k + j ≡ i → bitSet n i ≡ bitSet (n / 2 ^ k) j
