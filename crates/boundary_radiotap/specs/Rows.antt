@@ -9,8 +9,8 @@ use Rattle.radiotap_rules.specs.Reading.{Ending, ended, stopped, refusedField, 
 use Rattle.radiotap_rules.specs.Reading.{FieldAnswer as FieldOf}
 use Rattle.radiotap_rules.specs.Answers.{Summary, noWord, theWord}
 use Rattle.radiotap_rules.specs.Answers.{Word as WordOf}
-use Rattle.radiotap.specs.declared.FieldAnswer.{FieldAnswer}
-use Rattle.radiotap.specs.Says.{fieldSays, FieldSized}
+use Rattle.radiotap_field.specs.declared.FieldAnswer.{FieldAnswer}
+use Rattle.radiotap_field.specs.Says.{fieldSays, FieldSized}
 use Rattle.boundary_radiotap.specs.declared.Radiotap.{Radiotap}
 use Rattle.boundary_radiotap.specs.declared.Word.{Word}
 use Rattle.boundary_radiotap.specs.declared.Field.{Field}

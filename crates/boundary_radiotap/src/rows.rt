@@ -6,8 +6,8 @@ ghost use Rattle.boundary_radiotap.specs.Rows.{shownRow, radiotapRow, wo
 use crate::Field;
 use crate::Radiotap;
 use crate::Word;
-use radiotap::FieldAnswer;
 use radiotap::ReadAnswer;
+use radiotap_field::FieldAnswer;
 use radiotap_head::WordAnswer;
 
 pub fn radiotap(answer: ReadAnswer) -> Radiotap

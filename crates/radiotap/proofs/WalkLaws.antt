@@ -1,26 +1,23 @@
 -- What a walk over all fields has found so far, and how each step carries it on or ends it.
 -- Assumes nothing.
-use Prim.Native.Nat.{ℕ, suc, _+_, _*_, _≤_, _<_}
-use mathlib.Core.Path.{_≡_, refl, sym, ap, _∙_, subst}
-use mathlib.Core.Bool.{Bool, true, false, cond}
-use mathlib.Core.List.{List, []}
+use Prim.Native.Nat.{ℕ, suc, _+_, _*_, _≤_}
+use mathlib.Core.Path.{_≡_, refl, sym, ap, _∙_}
+use mathlib.Core.Bool.{cond}
+use mathlib.Core.List.{List}
 use native.Mathlib.Omega.{arith}
 use native.Mathlib.Nat.{add-zero}
 use lib.ListN.{length}
 use lib.Dec.{eqb}
-use borrow.Author.Tests.{lt-ltb, le-ltb, eq-eqb, ne-eqb}
-use Rattle.octets.specs.Signed.{signed}
 use Rattle.refusals.specs.Refusals.{Answer, given}
 use Rattle.radiotap_rules.specs.declared.Head.{Head}
 use Rattle.radiotap_rules.specs.declared.Cursor.{Cursor}
 use Rattle.radiotap_rules.specs.Rules.{Rules}
-use Rattle.radiotap_rules.specs.Reading.{mostWords, wordBits, presenceWords, Field, Ending, Walk, refusedAt, shown, withField, readWalk, readWords, theField, noField}
-use Rattle.radiotap_rules.specs.Steps.{headAt, firstCursor, Met, refusedStep, over, met, metFrom, stepOf}
-use Rattle.radiotap_rules.specs.Answers.{isDbm, notDbm, dbmValue}
+use Rattle.radiotap_rules.specs.Reading.{mostWords, wordBits, presenceWords, Field, Ending, Walk, refusedAt, shown, withField, readWalk, readWords}
+use Rattle.radiotap_rules.specs.Steps.{headAt, firstCursor, refusedStep, over, met, stepOf}
 use Rattle.radiotap_rules.proofs.Places.{length-inside}
 use Rattle.radiotap_rules.proofs.Words.{words-few}
-use Rattle.radiotap_rules.proofs.Steps.{Stands, positionsLeft, walkFrom, step-words, stands-next, walk-next, walk-refused, walk-over, moved-behind, headed, stands-first, walk-first}
-use Rattle.radiotap.specs.Outcomes.{Outcome, refusedOutcome, shownOutcome, noneKept, keptFrom, outcomeFrom, outcome, numberedAs, valuedAs}
+use Rattle.radiotap_rules.proofs.Steps.{Stands, walkFrom, walk-refuses, walk-ends, next-behind, stands-next, walk-next, headed, stands-first, walk-first}
+use Rattle.radiotap.specs.Outcomes.{Outcome, refusedOutcome, shownOutcome, noneKept, keptFrom, outcomeFrom, outcome}
 
 -- what the walk behind a head leaves
 abbrev pub whole : Rules → (edition : ℕ) → List ℕ → (size number : ℕ) → Outcome
@@ -67,12 +64,9 @@ module _ (rules : Rules) (edition : ℕ) (s : List ℕ) (number : ℕ) where
         let few = words-few s size (f .ws) (f .words) .1 in
         omega (arith, f .few, f .stands .position, f .stands .count, few)
 
-    here : (m : Met) → stepOf rules edition s c ≡ m → metFrom rules edition s c (f .ws) (positionsLeft c) (c .position) ≡ m
-    here m e = sym (step-words rules edition s size (f .ws) (f .words) c (f .stands)) ∙ e
-
     pub refuses : {n p : ℕ} → stepOf rules edition s c ≡ refusedStep n p → whole rules edition s size number ≡ refusedOutcome n p
     refuses {n} {p} e =
-        let by = walk-refused rules edition s c (f .ws) (positionsLeft c) (c .position) n p (here (refusedStep n p) e) in
+        let by = walk-refuses rules edition s size (f .ws) (f .words) c (f .stands) n p e in
         f .answer
         ∙ ap (λ (x : Walk). outcomeFrom fields kept number (readWalk s size x)) (by .refusal)
         ∙ ap (λ (k : ℕ). refusedOutcome k p) (sym (by .twelve))
@@ -80,64 +74,25 @@ module _ (rules : Rules) (edition : ℕ) (s : List ℕ) (number : ℕ) where
     pub finishes : {e : Ending} → stepOf rules edition s c ≡ over e → whole rules edition s size number ≡ shownOutcome fields e kept
     finishes {e} h =
         f .answer
-        ∙ ap (λ (x : Walk). outcomeFrom fields kept number (readWalk s size x)) (walk-over rules edition s c (f .ws) (positionsLeft c) (c .position) e (here (over e) h))
+        ∙ ap (λ (x : Walk). outcomeFrom fields kept number (readWalk s size x)) (walk-ends rules edition s size (f .ws) (f .words) c (f .stands) e h)
         ∙ ap (λ (k : ℕ). shownOutcome k e kept) (add-zero fields)
 
-    module _ {g : Field} {c′ : Cursor} (h : stepOf rules edition s c ≡ met g c′) where
-      pub nearer : positionsLeft c′ < positionsLeft c
-      nearer =
-          let m = moved-behind rules edition s c (f .ws) (positionsLeft c) (c .position) g c′ (here (met g c′) h) in
-          omega (arith, m .after, m .within, m .words, f .stands .position)
-
-      pub passes : SoFar rules edition s size number c′ (fields + 1) (cond (eqb fields number) g kept)
-      passes =
-          let m = moved-behind rules edition s c (f .ws) (positionsLeft c) (c .position) g c′ (here (met g c′) h) in
-          record {
-            ws = f .ws;
-            words = f .words;
-            stands = stands-next rules edition s size (f .ws) (f .words) c (f .stands) g c′ h;
-            same = m .size ∙ f .same;
-            few = omega (arith, f .few, m .after);
-            answer =
-                f .answer
-                ∙ ap (λ (x : Walk). outcomeFrom fields kept number (readWalk s size x)) (walk-next rules edition s size (f .ws) (f .words) c (f .stands) g c′ h)
-                ∙ counted size fields kept g (walkFrom rules edition s (f .ws) c′);
-          }
-
-      -- a field that ends where the cursor behind it is free lies inside the input
-      pub shown-inside : (start n : ℕ) → size ≤ length s → c′ .at ≡ start + n → start + n ≤ length s
-      shown-inside start n input e =
-          let m = moved-behind rules edition s c (f .ws) (positionsLeft c) (c .position) g c′ (here (met g c′) h) in
-          omega (arith, m .inside, f .same, input, e)
-
-      -- the field of the number is kept
-      pub keeps : fields ≡ number → SoFar rules edition s size number c′ (fields + 1) g
-      keeps e =
-          subst (SoFar rules edition s size number c′ (fields + 1))
-          (ap (λ (t : Bool). cond t g kept) (eq-eqb fields number e)) passes
-
-      -- any other is only counted
-      pub leaves : (fields ≡ number → ⊥) → SoFar rules edition s size number c′ (fields + 1) kept
-      leaves e =
-          subst (SoFar rules edition s size number c′ (fields + 1))
-          (ap (λ (t : Bool). cond t g kept) (ne-eqb fields number e)) passes
+    pub passes : {g : Field} {c′ : Cursor} → stepOf rules edition s c ≡ met g c′
+        → SoFar rules edition s size number c′ (fields + 1) (cond (eqb fields number) g kept)
+    passes {g} {c′} h =
+        let m = next-behind rules edition s size (f .ws) (f .words) c (f .stands) g c′ h in
+        record {
+          ws = f .ws;
+          words = f .words;
+          stands = stands-next rules edition s size (f .ws) (f .words) c (f .stands) g c′ h;
+          same = m .size ∙ f .same;
+          few = omega (arith, f .few, m .after);
+          answer =
+              f .answer
+              ∙ ap (λ (x : Walk). outcomeFrom fields kept number (readWalk s size x)) (walk-next rules edition s size (f .ws) (f .words) c (f .stands) g c′ h)
+              ∙ counted size fields kept g (walkFrom rules edition s (f .ws) c′);
+        }
 
 -- the length of a head that is given is inside the input
 pub head-inside : (s : List ℕ) (h : Head) → headAt s ≡ given h → h .size ≤ length s
 head-inside s h e = length-inside s (h .size) (headed s h e .header)
-
--- a number below those shown has the field that was kept, any other the ending
-module _ (number fields : ℕ) (e : Ending) (kept : Field) where
-  pub numbered-shown : number < fields → numberedAs number (shownOutcome fields e kept) ≡ theField kept
-  numbered-shown h = ap (λ (t : Bool). cond t (theField kept) (noField e)) (lt-ltb number fields h)
-
-  pub numbered-past : fields ≤ number → numberedAs number (shownOutcome fields e kept) ≡ noField e
-  numbered-past h = ap (λ (t : Bool). cond t (theField kept) (noField e)) (le-ltb number fields h)
-
--- the value of a field: signed dBm for bits 5, 6 and 10
-module _ (bit octet : ℕ) where
-  pub valued-dbm : isDbm bit ≡ true → valuedAs bit octet ≡ dbmValue (signed 8 octet)
-  valued-dbm e = ap (λ (t : Bool). cond t (dbmValue (signed 8 octet)) notDbm) e
-
-  pub valued-other : isDbm bit ≡ false → valuedAs bit octet ≡ notDbm
-  valued-other e = ap (λ (t : Bool). cond t (dbmValue (signed 8 octet)) notDbm) e

@@ -159,7 +159,7 @@ pub extern "C" fn zalghimo_radiotap_word(input: &[u8], number: usize) -> Word
 pub extern "C" fn zalghimo_radiotap_field(input: &[u8], edition: u32, number: usize) -> Field
     ensures { λ r. ⌜ r ≡ fieldRow (fieldOf (readingIn ourRules edition (now (input .entry))) number) ⌝ }
 {
-    boundary_radiotap::rows::field(radiotap::field(input, edition, number))
+    boundary_radiotap::rows::field(radiotap_field::field(input, edition, number))
 }
 
 // Reads a radiotap header in an edition and puts its fields into a list of numbers, four a field.

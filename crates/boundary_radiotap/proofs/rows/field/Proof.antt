@@ -2,8 +2,8 @@
 -- Assumes nothing.
 use Prim.Native.Nat.{ℕ}
 use mathlib.Core.Path.{sym, ap, _∙_, subst}
-use Rattle.radiotap.specs.declared.FieldAnswer.{FieldAnswer}
-use Rattle.radiotap.specs.Says.{fieldSays, FieldSized}
+use Rattle.radiotap_field.specs.declared.FieldAnswer.{FieldAnswer}
+use Rattle.radiotap_field.specs.Says.{fieldSays, FieldSized}
 use Rattle.boundary_radiotap.specs.Rows.{fieldRow}
 use borrow.Author.Needs.{needs}
 use Rattle.boundary_radiotap.proofs.rows.field.Statement.{statement}

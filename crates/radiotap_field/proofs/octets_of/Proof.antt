@@ -1,13 +1,13 @@
--- `radiotap::octets_of` meets its contract: the part of the input that the field lies in, or nothing.
+-- `radiotap_field::octets_of` meets its contract: the part of the input that the field lies in, or nothing.
 -- Assumes nothing.
 use mathlib.Core.Path.{sym, ap, _∙_}
 use denote.Ref.{now}
 use Rattle.radiotap_rules.specs.Answers.{octetsOfField}
-use Rattle.radiotap.specs.declared.FieldAnswer.{FieldAnswer}
-use Rattle.radiotap.specs.Says.{fieldSays}
+use Rattle.radiotap_field.specs.declared.FieldAnswer.{FieldAnswer}
+use Rattle.radiotap_field.specs.Says.{fieldSays}
 use borrow.Author.Needs.{needs}
-use Rattle.radiotap.proofs.octets_of.Statement.{statement}
-use Rattle.radiotap.proofs.octets_of.Tie as tie
+use Rattle.radiotap_field.proofs.octets_of.Statement.{statement}
+use Rattle.radiotap_field.proofs.octets_of.Tie as tie
 
 field-requires : tie.Need-field-requires
 field-requires c κs = search needs

@@ -1,4 +1,4 @@
--- `radiotap::field` meets its contract: the refusal before the fields, or the field of the number that the walk kept.
+-- `radiotap_field::field` meets its contract: the refusal before the fields, or the field of the number that the walk kept.
 -- Assumes nothing.
 use mathlib.Core.Path.{_≡_, sym, ap, _∙_}
 use denote.Ref.{now}
@@ -6,11 +6,12 @@ use Rattle.refusals.specs.Refusals.{given}
 use Rattle.radiotap_rules.specs.Reading.{Reading, fieldOf}
 use Rattle.radiotap_rules.specs.Steps.{headAt}
 use Rattle.radiotap_head.specs.Says.{headSays}
 use Rattle.radiotap.specs.Says.{opening}
-use Rattle.radiotap.proofs.ReadLaws.{opened-refused, opened-head, number-by}
+use Rattle.radiotap.proofs.ReadLaws.{opened-refused, opened-head}
+use Rattle.radiotap_field.proofs.KeptLaws.{number-by}
 use borrow.Author.Needs.{needs}
-use Rattle.radiotap.proofs.field.Statement.{statement}
-use Rattle.radiotap.proofs.field.Tie as tie
+use Rattle.radiotap_field.proofs.field.Statement.{statement}
+use Rattle.radiotap_field.proofs.field.Tie as tie
 
 opened-requires : tie.Need-opened-requires
 opened-requires c κs = search needs

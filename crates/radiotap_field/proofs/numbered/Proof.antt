@@ -1,14 +1,14 @@
--- `radiotap::numbered` meets its contract: the field that was kept below the number of fields, else the ending.
+-- `radiotap_field::numbered` meets its contract: the field that was kept below the number of fields, else the ending.
 -- Assumes nothing.
 use mathlib.Core.Path.{sym, ap, _∙_, subst}
 use Rattle.octets.proofs.PartLaws.{length-part}
-use Rattle.radiotap.specs.declared.Walked.{Walked}
-use Rattle.radiotap.specs.Says.{fieldSays, FieldSized}
-use Rattle.radiotap.specs.Outcomes.{walkSays, KeptInside, numberedAs}
-use Rattle.radiotap.proofs.WalkLaws.{numbered-shown, numbered-past}
+use Rattle.radiotap_field.specs.declared.Walked.{Walked}
+use Rattle.radiotap_field.specs.Says.{fieldSays, FieldSized}
+use Rattle.radiotap_field.specs.Keeping.{walkSays, KeptInside, numberedAs}
+use Rattle.radiotap_field.proofs.KeptLaws.{numbered-shown, numbered-past}
 use borrow.Author.Needs.{needs}
-use Rattle.radiotap.proofs.numbered.Statement.{statement}
-use Rattle.radiotap.proofs.numbered.Tie as tie
+use Rattle.radiotap_field.proofs.numbered.Statement.{statement}
+use Rattle.radiotap_field.proofs.numbered.Tie as tie
 
 enum-known-walk : tie.Need-enum-known-walk
 enum-known-walk c = search needs

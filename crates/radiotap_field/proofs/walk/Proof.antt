@@ -1,4 +1,4 @@
--- `radiotap::walk` meets its contract: the loop keeps that the whole outcome is what was found so far and the outcome of the walk from the
+-- `radiotap_field::walk` meets its contract: the loop keeps that the whole outcome is what was found so far and the outcome of the walk from the
 -- cursor on (`SoFar`), and each step carries it on or ends it.
 -- Assumes nothing.
 use Prim.Native.Nat.{_+_, _≤_}
@@ -14,11 +14,13 @@ use Rattle.radiotap_rules.specs.Table.{ourRules}
 use Rattle.radiotap_rules.proofs.Steps.{positionsLeft}
 use Rattle.radiotap_rules.specs.Steps.{firstCursor}
 use Rattle.radiotap_step.specs.Says.{stepSays, StepSized}
-use Rattle.radiotap.specs.declared.Kept.{Kept}
-use Rattle.radiotap.specs.Outcomes.{keptOf, noneKept}
-use Rattle.radiotap.proofs.WalkLaws.{SoFar, whole, begins, countable, refuses, finishes, nearer, shown-inside, keeps, leaves, head-inside}
-use Rattle.radiotap.proofs.walk.Statement.{statement}
-use Rattle.radiotap.proofs.walk.Tie as tie
+use Rattle.radiotap_field.specs.declared.Kept.{Kept}
+use Rattle.radiotap.specs.Outcomes.{noneKept}
+use Rattle.radiotap_field.specs.Keeping.{keptOf}
+use Rattle.radiotap.proofs.WalkLaws.{SoFar, whole, begins, countable, refuses, finishes, head-inside}
+use Rattle.radiotap_field.proofs.KeptLaws.{nearer, shown-inside, keeps, leaves}
+use Rattle.radiotap_field.proofs.walk.Statement.{statement}
+use Rattle.radiotap_field.proofs.walk.Tie as tie
 
 abbrev Inv-loop : tie.InvT-loop
 Inv-loop s edition number cursor₀ fields₀ kept₀ cursor fields kept =

@@ -1,15 +1,15 @@
--- `radiotap::dbm` meets its contract: the value of the octet at the start of the field, or the answer where there is none.
+-- `radiotap_field::dbm` meets its contract: the value of the octet at the start of the field, or the answer where there is none.
 -- Assumes nothing.
 use mathlib.Core.Path.{sym, ap, _∙_}
 use denote.Ref.{now}
 use Rattle.radiotap_rules.specs.Answers.{dbmOf}
-use Rattle.radiotap.specs.declared.FieldAnswer.{FieldAnswer}
-use Rattle.radiotap.specs.Says.{fieldSays}
-use Rattle.radiotap.specs.Outcomes.{valuedAs}
-use Rattle.radiotap.proofs.ReadLaws.{value-at}
+use Rattle.radiotap_field.specs.declared.FieldAnswer.{FieldAnswer}
+use Rattle.radiotap_field.specs.Says.{fieldSays}
+use Rattle.radiotap_field.specs.Keeping.{valuedAs}
+use Rattle.radiotap_field.proofs.ValueLaws.{value-at}
 use borrow.Author.Needs.{needs}
-use Rattle.radiotap.proofs.dbm.Statement.{statement}
-use Rattle.radiotap.proofs.dbm.Tie as tie
+use Rattle.radiotap_field.proofs.dbm.Statement.{statement}
+use Rattle.radiotap_field.proofs.dbm.Tie as tie
 
 field-requires : tie.Need-field-requires
 field-requires c κs = search needs
