@@ -2,24 +2,24 @@
 -- Assumes nothing.
 use Prim.Native.Nat.{ℕ, _+_, _-_, _*_, _≤_, _<_}
 use mathlib.Core.Path.{_≡_, refl, sym, ap, _∙_, subst₂}
-use mathlib.Core.Bool.{Bool, true, false, cond, _&&_}
+use mathlib.Core.Bool.{Bool, false, cond}
 use mathlib.Core.List.{List}
 use native.Mathlib.Omega.{arith}
-use lib.ListN.{length, getD}
-use lib.Dec.{leb, ltb, eqb}
+use lib.ListN.{length}
+use lib.Dec.{ltb}
 use lib.Bits.{bitAnd, bitOr}
 use lib.Count.{trailingZeros, trailing-of-zero}
-use borrow.Author.Tests.{le-ltb, leb-true}
+use borrow.Author.Tests.{le-ltb}
 use Rattle.octets.specs.Numbers.{little, numberAt}
 use Rattle.octets.specs.Parts.{part}
-use Rattle.refusals.specs.Refusals.{refused, given, shortHeader, version}
+use Rattle.refusals.specs.Refusals.{given}
 use Rattle.radiotap_rules.specs.declared.Head.{Head}
 use Rattle.radiotap_rules.specs.declared.Cursor.{Cursor}
 use Rattle.radiotap_rules.specs.Table.{ourRules}
-use Rattle.radiotap_rules.specs.Reading.{headerLength, fixedLength, lengthIn, fixedHeader, fieldPast, mostWords, wordBits, Field, ended, stopped}
+use Rattle.radiotap_rules.specs.Reading.{fieldPast, mostWords, wordBits, Field, ended, stopped}
 use Rattle.radiotap_rules.specs.Steps.{headAt, firstCursor, refusedStep, over, met, stepOf}
 use Rattle.radiotap_rules.proofs.Words.{words-few, words-inside}
-use Rattle.radiotap_rules.proofs.Places.{length-inside}
+use Rattle.radiotap_rules.proofs.Places.{length-told}
 use Rattle.radiotap_head.specs.Says.{wordInside}
 use Rattle.radiotap_rules.proofs.Steps.{headed}
 use Rattle.radiotap_table.specs.declared.Span.{Span}
@@ -27,22 +27,8 @@ use Rattle.radiotap_table.specs.Says.{SpannedAs}
 use Rattle.radiotap_bits.specs.Bits.{KnownBits, Carries}
 use Rattle.radiotap_bits.proofs.SetLaws.{trailing-below}
 use Rattle.radiotap_step.proofs.StepLaws.{Reached, starts, ends}
-use Rattle.radiotap_step.proofs.WordLaws.{Standing, opens, stops-here, passes-word, bit-small, start, starts-near, refuses-past, behind, meets-field, stands-behind}
+use Rattle.radiotap_step.proofs.WordLaws.{Standing, opens, stops-here, passes-word, bit-small, starts-near, refuses-past, behind, meets-field, stands-behind}
 use Rattle.radiotap.proofs.WalkLaws.{SoFar, begins, countable, passes}
-
--- the length that the fixed header gives is at least the fixed header's
-length-least : (s : List ℕ) (size : ℕ) → fixedHeader s ≡ given size → fixedLength ≤ size
-unfolding fixedHeader
-length-least s size =
-    go (ltb (length s) fixedLength) (eqb (getD s 0 0) 0) (leb fixedLength (lengthIn s)) (leb (lengthIn s) (length s)) refl shortHeader (length s) headerLength 2 version 0
-  where
-    go : (a b c d : Bool) → leb fixedLength (lengthIn s) ≡ c → (n p n′ p′ n″ p″ : ℕ)
-        → cond a (refused n p) (cond b (cond (c && d) (given (lengthIn s)) (refused n′ p′)) (refused n″ p″)) ≡ given size → fixedLength ≤ size
-    go true b c d l n p n′ p′ n″ p″ e = let z : _≡_ {A = ℕ} 0 1 = cc in absurd (omega arith)
-    go false true true true l n p n′ p′ n″ p″ e = let same : lengthIn s ≡ size = cc in omega (arith, leb-true fixedLength (lengthIn s) l, same)
-    go false true true false l n p n′ p′ n″ p″ e = let z : _≡_ {A = ℕ} 0 1 = cc in absurd (omega arith)
-    go false true false d l n p n′ p′ n″ p″ e = let z : _≡_ {A = ℕ} 0 1 = cc in absurd (omega arith)
-    go false false c d l n p n′ p′ n″ p″ e = let z : _≡_ {A = ℕ} 0 1 = cc in absurd (omega arith)
 
 -- so many fields are found up to a cursor, whichever of them is kept, and the walk is in one of so many words, its last place
 -- that is not free not far behind the length
@@ -73,6 +59,7 @@ module _ (edition : ℕ) (s : List ℕ) (known : ℕ) where
   word-first h e knowing =
       let there = headed s h e in
       let few = words-few s (h .size) (there .ws) (there .words) in
+      let size = length-told s (h .size) (there .header) in
       record {
         sofar = record {
           kept = _;
@@ -81,7 +68,7 @@ module _ (edition : ℕ) (s : List ℕ) (known : ℕ) where
           count = refl;
           more = omega (arith, there .count, few .0);
           room = omega (arith, there .count, few .1);
-          inside = omega (arith, there .count, words-inside s (h .size) (there .ws) (there .words) (length-least s (h .size) (there .header)), length-inside s (h .size) (there .header));
+          inside = omega (arith, there .count, words-inside s (h .size) (there .ws) (there .words) (size .least), size .inside);
         };
         reached = starts ourRules edition s (firstCursor h);
         free = omega arith;

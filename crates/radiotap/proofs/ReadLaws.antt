@@ -2,20 +2,20 @@
 -- Assumes nothing.
 use Prim.Native.Nat.{ℕ, _+_}
 use mathlib.Core.Path.{_≡_, refl, sym, ap, ap₂, _∙_}
-use mathlib.Core.Bool.{Bool, true, false, cond, _&&_}
+use mathlib.Core.Bool.{Bool, true, false, cond}
 use mathlib.Core.List.{List, []}
 use native.Mathlib.Omega.{arith}
 use lib.ListN.{length, getD, take, drop, length-drop}
 use lib.Seq.{take-all}
-use lib.Dec.{leb, ltb, eqb}
-use Rattle.refusals.specs.Refusals.{Answer, refused, given, shortHeader, version}
+use Rattle.refusals.specs.Refusals.{Answer, refused, given}
 use Rattle.octets.specs.Parts.{part}
 use Rattle.radiotap_rules.specs.declared.Head.{Head}
 use Rattle.radiotap_rules.specs.Rules.{Rules, editionTaken, served}
 use Rattle.radiotap_rules.specs.Table.{ourRules}
-use Rattle.radiotap_rules.specs.Reading.{headerLength, fixedLength, lengthIn, fixedHeader, presenceWords, editionAbove, Walk, refusedAt, shown, Reading, refusedBefore, refusedAtField, read, readWalk, readWords, readFixed, reading, fieldsOf}
+use Rattle.radiotap_rules.specs.Reading.{lengthIn, fixedHeader, presenceWords, editionAbove, Walk, refusedAt, shown, Reading, refusedBefore, refusedAtField, read, readWalk, readWords, readFixed, reading, fieldsOf}
 use Rattle.radiotap_rules.specs.Steps.{headOfWords, headOfFixed, headAt}
 use Rattle.radiotap_rules.specs.Answers.{wordsOfFixed, wordsIn, howMany, Summary, summary, frameIn}
+use Rattle.radiotap_rules.proofs.Places.{length-told}
 use Rattle.radiotap_rules.proofs.Steps.{Headed, headed}
 use Rattle.radiotap.specs.Says.{opening}
 use Rattle.radiotap.specs.Outcomes.{Outcome, outcome, summarised}
@@ -67,19 +67,6 @@ module _ (edition : ℕ) (s : List ℕ) where
       → readWords ourRules taken s (h .size) (presenceWords s (h .size)) ≡ reading ourRules edition s
   opened-walk {h} e takes = ap (λ (n : ℕ). readWords ourRules n s (h .size) (presenceWords s (h .size))) takes ∙ sym (opened-reads e)
 
--- the length that the fixed header gives is the one in its octets
-length-in : (s : List ℕ) (size : ℕ) → fixedHeader s ≡ given size → lengthIn s ≡ size
-unfolding fixedHeader
-length-in s size =
-    go (ltb (length s) fixedLength) (eqb (getD s 0 0) 0) (leb fixedLength (lengthIn s) && leb (lengthIn s) (length s)) shortHeader (length s) headerLength 2 version 0
-  where
-    go : (a b c : Bool) (n p n′ p′ n″ p″ : ℕ)
-        → cond a (refused n p) (cond b (cond c (given (lengthIn s)) (refused n′ p′)) (refused n″ p″)) ≡ given size → lengthIn s ≡ size
-    go true b c n p n′ p′ n″ p″ e = let z : _≡_ {A = ℕ} 0 1 = cc in absurd (omega arith)
-    go false true true n p n′ p′ n″ p″ e = cc
-    go false true false n p n′ p′ n″ p″ e = let z : _≡_ {A = ℕ} 0 1 = cc in absurd (omega arith)
-    go false false c n p n′ p′ n″ p″ e = let z : _≡_ {A = ℕ} 0 1 = cc in absurd (omega arith)
-
 -- the summary of a reading by what its walk leaves
 module _ (s : List ℕ) (h : Head) (there : Headed s h) where
   summary-left : (k : ℕ) (x : Reading) → summarised (getD s 1 0) h (outcome k x) ≡ summary s x
@@ -88,7 +75,7 @@ module _ (s : List ℕ) (h : Head) (there : Headed s h) where
   summary-left k (refusedAtField w b p) = refl
   summary-left k (read fs e frame) =
       let fields : 0 + length fs ≡ length fs = omega arith in
-      let size : h .size ≡ lengthIn s = sym (length-in s (h .size) (there .header)) in
+      let size : h .size ≡ lengthIn s = sym (length-told s (h .size) (there .header) .told) in
       let words : h .words ≡ howMany (wordsOfFixed s (fixedHeader s)) =
       there .count ∙ sym (ap (λ (x : Answer ℕ). howMany (wordsOfFixed s x)) (there .header) ∙ ap howMany (there .words)) in
       rw (fields, size, words)
@@ -124,7 +111,7 @@ framed rules edition s = go (served rules edition) (fixedHeader s) refl
 
     onWalk : (size : ℕ) → fixedHeader s ≡ given size → (x : Walk) → Framed s (readWalk s size x)
     onWalk size e (refusedAt w b p) = tt
-    onWalk size e (shown fs e′) = ap (λ (n : ℕ). drop n s) (sym (length-in s size e))
+    onWalk size e (shown fs e′) = ap (λ (n : ℕ). drop n s) (sym (length-told s size e .told))
 
     onWords : (size : ℕ) → fixedHeader s ≡ given size → (x : Answer (List ℕ)) → Framed s (readWords rules taken s size x)
     onWords size e (refused n p) = tt

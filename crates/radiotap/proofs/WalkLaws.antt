@@ -14,7 +14,7 @@ use Rattle.radiotap_rules.specs.declared.Cursor.{Cursor}
 use Rattle.radiotap_rules.specs.Rules.{Rules}
 use Rattle.radiotap_rules.specs.Reading.{mostWords, wordBits, presenceWords, Field, Ending, Walk, refusedAt, shown, withField, readWalk, readWords}
 use Rattle.radiotap_rules.specs.Steps.{headAt, firstCursor, refusedStep, over, met, stepOf}
-use Rattle.radiotap_rules.proofs.Places.{length-inside}
+use Rattle.radiotap_rules.proofs.Places.{length-told}
 use Rattle.radiotap_rules.proofs.Words.{words-few}
 use Rattle.radiotap_rules.proofs.Steps.{Stands, walkFrom, walk-refuses, walk-ends, next-behind, stands-next, walk-next, headed, stands-first, walk-first}
 use Rattle.radiotap.specs.Outcomes.{Outcome, refusedOutcome, shownOutcome, noneKept, keptFrom, outcomeFrom, outcome}
@@ -95,4 +95,4 @@ module _ (rules : Rules) (edition : ℕ) (s : List ℕ) (number : ℕ) where
 
 -- the length of a head that is given is inside the input
 pub head-inside : (s : List ℕ) (h : Head) → headAt s ≡ given h → h .size ≤ length s
-head-inside s h e = length-inside s (h .size) (headed s h e .header)
+head-inside s h e = length-told s (h .size) (headed s h e .header) .inside

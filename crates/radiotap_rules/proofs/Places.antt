@@ -2,7 +2,7 @@
 -- Assumes nothing.
 use Prim.Native.Nat.{ℕ, zero, suc, _+_, _≤_}
 use mathlib.Core.Path.{_≡_, refl, subst}
-use mathlib.Core.Bool.{Bool, true, false, cond, _&&_}
+use mathlib.Core.Bool.{Bool, true, false, cond, _&&_, and-eq-true-iff}
 use mathlib.Core.List.{List, [], _∷_}
 use native.Mathlib.Omega.{arith}
 use lib.ListN.{length, getD}
@@ -20,25 +20,29 @@ either : {A : Type 0} (P : A → Type 0) (t : Bool) (x y : A) → (t ≡ true �
 either P true x y h h′ = h refl
 either P false x y h h′ = h′
 
--- the length that the fixed header gives is at most the input's length
-pub length-inside : (s : List ℕ) (size : ℕ) → fixedHeader s ≡ given size → size ≤ length s
+-- what the fixed header's tests say of the length that it gives: it is the one in its octets, and lies between the fixed header's and
+-- the input's
+pub record LengthTold (s : List ℕ) (size : ℕ) : Type 0 where
+  pub told : lengthIn s ≡ size
+  pub least : fixedLength ≤ size
+  pub inside : size ≤ length s
+
+pub length-told : (s : List ℕ) (size : ℕ) → fixedHeader s ≡ given size → LengthTold s size
 unfolding fixedHeader
-length-inside s size e =
+length-told s size e =
     subst Held e
     (either Held (ltb (length s) fixedLength) _ _ (λ t. tt)
     (either Held (eqb (getD s 0 0) 0) _ _
     (λ t.
     either Held (leb fixedLength (lengthIn s) && leb (lengthIn s) (length s)) _ _
-    (λ t. leb-true (lengthIn s) (length s) (second (leb fixedLength (lengthIn s)) (leb (lengthIn s) (length s)) t)) tt)
+    (λ t.
+    let both = and-eq-true-iff (leb fixedLength (lengthIn s)) (leb (lengthIn s) (length s)) .0 t in
+    record { told = refl; least = leb-true fixedLength (lengthIn s) (both .0); inside = leb-true (lengthIn s) (length s) (both .1) }) tt)
     tt))
   where
     Held : Answer ℕ → Type 0
     Held (refused number place) = Unit {0}
-    Held (given n) = n ≤ length s
-
-    second : (t t′ : Bool) → (t && t′) ≡ true → t′ ≡ true
-    second true t′ e = e
-    second false t′ e = let z : _≡_ {A = ℕ} 0 1 = cc in absurd (omega arith)
+    Held (given n) = LengthTold s n
 
 -- if a position means a field, it has the row of this field number
 abbrev OwnRow : Rules → ℕ → Meaning → Type 0
@@ -105,7 +109,7 @@ fields-inside rules edition s fs e frame h =
     by-walks s (λ readIn. ReadingLies rules s (readIn rules (editionTaken (rules .readingDefault) edition)))
     (λ number place. tt)
     (λ size header words left q at.
-    let input : size ≤ length s = length-inside s size header in
+    let input : size ≤ length s = length-told s size header .inside in
     go size header input (fieldsFrom rules _ s size words left q at) (lies-walk rules s size input _ words left q at)))
     tt)
   where

@@ -24,7 +24,7 @@ use Rattle.radiotap_rules.proofs.Walks.{chosen, read-served, read-shown
 use Rattle.radiotap_rules.proofs.Words.{words-at, last-calls-none}
 use Rattle.radiotap_rules.proofs.Unstopped.{walk-writable}
 use Rattle.radiotap_rules.proofs.Nesting.{taken-served}
-use Rattle.radiotap_rules.proofs.Places.{length-inside}
+use Rattle.radiotap_rules.proofs.Places.{length-told}
 use Rattle.radiotap_rules.proofs.Planning.{Aligned, aligned-after, plan-aligned, end-after, length-laid, length-header, plannedFields, WalkedTo, walked}
 
 -- a part of an input is its first part and the part behind that
@@ -168,7 +168,7 @@ header-back : (s : List ℕ) (size word : ℕ) → Octets s → fixedHeader s �
 unfolding numberAt part
 header-back s size word o header words =
     let fixed = fixed-back s size header in
-    let input : size ≤ length s = length-inside s size header in
+    let input : size ≤ length s = length-told s size header .inside in
     let low : fixedLength ≤ size = fixed .low in
     let two : octetsOf little 2 size ≡ octetsAt s 2 2 =
     rw (← fixed .sized) (write-after-read little (octetsAt s 2 2) (octets-at s 2 2 (omega arith) o)) in
@@ -241,7 +241,7 @@ module _ (rules : Rules) (edition : ℕ) (s : List ℕ) (size word : ℕ) (fs : 
   header-ends =
       let ps : List Planned = plan rules taken word in
       let a : Aligned ps = plan-aligned rules taken word ok in
-      let input : size ≤ length s = length-inside s size (one .header) in
+      let input : size ≤ length s = length-told s size (one .header) .inside in
       let summedUp = length-values s fixedLength ps a (omega (arith, planned .1)) in
       length-header rules taken word values ∙ length-laid fixedLength ps values a (omega arith)
 
@@ -249,7 +249,7 @@ module _ (rules : Rules) (edition : ℕ) (s : List ℕ) (size word : ℕ) (fs : 
   accepts : Writable rules taken word values
   unfolding numberAt
   accepts =
-      let input : size ≤ length s = length-inside s size (one .header) in
+      let input : size ≤ length s = length-told s size (one .header) .inside in
       let fixed = fixed-back s size (one .header) in
       let low : fixedLength ≤ size = fixed .low in
       let last : lastEnd fixedLength (plan rules taken word) ≤ size = planned .1 in
@@ -272,7 +272,7 @@ module _ (rules : Rules) (edition : ℕ) (s : List ℕ) (size word : ℕ) (fs : 
       let ps : List Planned = plan rules taken word in
       let a : Aligned ps = plan-aligned rules taken word ok in
       let last : lastEnd fixedLength ps ≤ size = planned .1 in
-      let input : size ≤ length s = length-inside s size (one .header) in
+      let input : size ≤ length s = length-told s size (one .header) .inside in
       let low : fixedLength ≤ size = fixed-back s size (one .header) .low in
       let xs : List ℕ = laid ps fixedLength values in
       let summedUp = length-values s fixedLength ps a (omega arith) in
