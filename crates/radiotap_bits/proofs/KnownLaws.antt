@@ -13,7 +13,7 @@ use borrow.Author.Tests.{le-leb, lt-leb}
 use Rattle.radiotap_rules.specs.Rules.{Row, unknown, rowOf, knows}
 use Rattle.radiotap_rules.specs.Table.{ourRules}
 use Rattle.radiotap_rules.specs.Reading.{bitSet, wordBits}
-use Rattle.radiotap_table.specs.Rows.{numbersOf}
+use Rattle.radiotap_rows.specs.Rows.{numbersOf}
 use Rattle.radiotap_bits.proofs.SetLaws.{bit-shifted, bit-zero}
 
 -- what is read of a row in the array is the number of that row; past the rows it is 0, as in an unknown row

@@ -3,7 +3,7 @@ ghost use mathlib.Core.Path.{_≡_};
 ghost use mathlib.Core.Bool.{cond, _&&_};
 ghost use lib.Dec.{leb};
 ghost use Rattle.radiotap_bits.specs.Bits.{NextSet, KnownBits, Carries};
-use radiotap_table::ROWS;
+use radiotap_rows::ROWS;
 
 // The bits of a presence word that carry a field: all but 29 and 31.
 pub const FIELD_BITS: u32 = 0x5fff_ffff;

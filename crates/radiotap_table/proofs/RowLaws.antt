@@ -1,11 +1,11 @@
--- What the table's test says of its rows, where a field lies by its row as it is read, and which row a bit has.
+-- What the table's test says of its rows, and where a field lies by its row as it is read.
 -- Assumes nothing.
 use Prim.Native.Nat.{ℕ, zero, suc, _≤_, _<_, _+_, _-_, _%_}
 use mathlib.Core.Path.{_≡_, refl, sym, ap, _∙_}
 use mathlib.Core.Bool.{Bool, true, false, cond, _&&_, and-eq-true-iff}
 use mathlib.Core.List.{List, [], _∷_}
 use native.Mathlib.Omega.{arith}
-use lib.ListN.{getD, List·getD-eq-default}
+use lib.ListN.{getD}
 use native.Mathlib.Nat.{div-mul-le-self}
 use lib.Bits.{bitOr}
 use lib.Dec.{leb, ltb}
@@ -14,7 +14,7 @@ use Rattle.radiotap_rules.specs.Rules.{Row, Rules, unknown, rowOf, knows, align
 use Rattle.radiotap_rules.specs.Table.{ourRules}
 use Rattle.radiotap_rules.specs.Reading.{aligned}
 use Rattle.radiotap_rules.specs.Answers.{unknownField, lies, layOf}
-use Rattle.radiotap_table.specs.Rows.{numbersOf, numbersIn}
+use Rattle.radiotap_rows.specs.Rows.{numbersIn}
 use Rattle.radiotap_table.specs.declared.Span.{Span}
 use Rattle.radiotap_table.specs.Says.{SpannedAs, AlignedAs}
 use Rattle.radiotap_table.proofs.RoundLaws.{alignment-above, alignment-most, alignment-filled}
@@ -119,23 +119,3 @@ span-lies edition bit last spans k =
     let ok : alignmentOk a ≡ true = known-alignment ourRules bit edition refl k in
     let mask : (a + 255) % 256 ≡ a - 1 = omega (arith, alignment-above a ok, alignment-most a ok) in
     rw (k, spans .0, spans .1, mask, alignment-filled a last ok)
-
--- a number that is none of so many from 0 on
-abbrev NoneOf : (k n : ℕ) → Type 0
-NoneOf zero n = Unit {0}
-NoneOf (suc k) n = NoneOf k n × (n ≡ k → ⊥)
-
-none-above : (k n : ℕ) → NoneOf k n → k ≤ n
-none-above zero n h = omega arith
-none-above (suc k) n h = let l = none-above k n (h .0) in let other = h .1 in omega arith
-
--- the row of a bit that is a number, and of one that is none of the rows'
-pub row-is : {bit : ℕ} (k : ℕ) → bit ≡ k → numbersIn ourRules k ≡ numbersIn ourRules bit
-row-is k e = ap (numbersIn ourRules) (sym e)
-
-pub row-past : {bit : ℕ} → 32 ≤ bit → 0 ∷ 0 ∷ 0 ∷ [] ≡ numbersIn ourRules bit
-row-past {bit} h = ap numbersOf (sym (List·getD-eq-default (ourRules .rows) unknown {n = bit} h))
-
--- a bit is one of the rows'
-pub row-some : {A : Type 0} {bit : ℕ} → bit < 32 → NoneOf 32 bit → A
-row-some {bit = bit} h none = absurd (omega (arith, none-above 32 bit none))

@@ -1,9 +1,9 @@
--- `radiotap_table::row_of` meets its contract: past the rows there is none, each arm is the row of its bit, and no other bit is left.
+-- `radiotap_rows::row_of` meets its contract: past the rows there is none, each arm is the row of its bit, and no other bit is left.
 -- Assumes nothing.
 use borrow.Author.Needs.{needs}
-use Rattle.radiotap_table.proofs.RowLaws.{row-is, row-past, row-some}
-use Rattle.radiotap_table.proofs.row_of.Statement.{statement}
-use Rattle.radiotap_table.proofs.row_of.Tie as tie
+use Rattle.radiotap_rows.proofs.ArmLaws.{row-is, row-past, row-some}
+use Rattle.radiotap_rows.proofs.row_of.Statement.{statement}
+use Rattle.radiotap_rows.proofs.row_of.Tie as tie
 
 returns : tie.Need-returns
 returns c = row-past (c .if1 .taken)
