@@ -1,4 +1,2 @@
 pub mod WroteLaws
 pub mod RecordLaws
-pub mod ListingLaws
-pub mod Shown

@@ -9,7 +9,7 @@ use mathlib.Core.List.{List, _∷_, _++_, append-assoc}
 use lib.ListN.{length, length-append}
 use Rattle.octets.specs.Parts.{put, splice}
 use Rattle.octets.proofs.PartLaws.{put-room, put-none, length-splice, splice-splice}
-use Rattle.listing.specs.Lines.{tab}
+use Rattle.listing_rules.specs.Lines.{tab}
 use Rattle.listing.specs.Wrote.{Wrote}
 
 -- an output keeps its length

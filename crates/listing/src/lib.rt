@@ -8,7 +8,7 @@ ghost use Rattle.btsnoop_rules.specs.Header.{headerLength};
 ghost use Rattle.btsnoop_rules.specs.File.{fileWalk};
 ghost use Rattle.capture_time.specs.Answers.{timeSays};
 ghost use Rattle.text.specs.Decimal.{decimal, signedDecimal};
-ghost use Rattle.listing.specs.Lines.{tab, mostOctets, mostListed, fieldsOf, timeFields, fileLine, recordLine, stopLine, endLine, walkLines, listing, listingWriting, listingWritten};
+ghost use Rattle.listing_rules.specs.Lines.{tab, mostOctets, mostListed, fieldsOf, timeFields, fileLine, recordLine, stopLine, endLine, walkLines, listing, listingWriting, listingWritten};
 ghost use Rattle.listing.specs.Wrote.{Wrote};
 use btsnoop::HEADER_LENGTH;
 use btsnoop::HeaderAnswer;

@@ -3,7 +3,7 @@
 use native.Mathlib.Omega.{arith}
 use borrow.Author.Needs.{needs}
 use Rattle.text.specs.Decimal.{decimal}
-use Rattle.listing.specs.Lines.{fileLine}
+use Rattle.listing_rules.specs.Lines.{fileLine}
 use Rattle.listing.proofs.WroteLaws.{wrote-then}
 use Rattle.listing.proofs.file_line.Statement.{statement}
 use Rattle.listing.proofs.file_line.Tie as tie

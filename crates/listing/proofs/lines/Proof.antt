@@ -10,7 +10,7 @@ use Rattle.btsnoop_rules.proofs.HeaderLaws.{header-long}
 use Rattle.btsnoop.specs.Says.{headerSays}
 use Rattle.listing.specs.Wrote.{Wrote}
 use Rattle.listing.proofs.WroteLaws.{wrote-then}
-use Rattle.listing.proofs.ListingLaws.{listing-above, listing-behind}
+use Rattle.listing_rules.proofs.ListingLaws.{listing-above, listing-behind}
 use Rattle.listing.proofs.lines.Statement.{statement}
 use Rattle.listing.proofs.lines.Tie as tie
 

@@ -8,7 +8,7 @@ use borrow.Author.Needs.{needs}
 use Rattle.refusals.specs.Refusals.{Answer}
 use Rattle.capture_time.specs.Time.{CaptureTime, reading}
 use Rattle.text.specs.Decimal.{decimal}
-use Rattle.listing.specs.Lines.{fieldsOf, timeFields, recordLine}
+use Rattle.listing_rules.specs.Lines.{fieldsOf, timeFields, recordLine}
 use Rattle.listing.specs.Wrote.{Wrote}
 use Rattle.listing.proofs.WroteLaws.{wrote-then, wrote-two}
 use Rattle.listing.proofs.record_line.Statement.{statement}

@@ -9,7 +9,7 @@ use mir.Facts.{toZ-ofZ}
 use denote.Ref.{now}
 use borrow.Author.Needs.{needs}
 use Rattle.text.specs.Decimal.{signedDecimal}
-use Rattle.listing.specs.Lines.{tab}
+use Rattle.listing_rules.specs.Lines.{tab}
 use Rattle.listing.specs.Wrote.{Wrote}
 use Rattle.listing.proofs.WroteLaws.{wrote-is, wrote-then}
 use Rattle.listing.proofs.signed_field.Statement.{statement}

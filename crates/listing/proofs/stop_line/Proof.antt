@@ -2,7 +2,7 @@
 -- Assumes nothing.
 use native.Mathlib.Omega.{arith}
 use borrow.Author.Needs.{needs}
-use Rattle.listing.specs.Lines.{stopLine}
+use Rattle.listing_rules.specs.Lines.{stopLine}
 use Rattle.listing.proofs.WroteLaws.{wrote-then}
 use Rattle.listing.proofs.stop_line.Statement.{statement}
 use Rattle.listing.proofs.stop_line.Tie as tie

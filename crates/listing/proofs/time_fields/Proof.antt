@@ -11,7 +11,7 @@ use borrow.Author.Needs.{needs}
 use Rattle.capture_time.specs.declared.TimeAnswer.{TimeAnswer}
 use Rattle.capture_time.specs.Answers.{timeSays}
 use Rattle.text.specs.Decimal.{signedDecimal}
-use Rattle.listing.specs.Lines.{tab, fieldsOf, timeFields}
+use Rattle.listing_rules.specs.Lines.{tab, fieldsOf, timeFields}
 use Rattle.listing.specs.Wrote.{Wrote}
 use Rattle.listing.proofs.WroteLaws.{wrote-then}
 use Rattle.listing.proofs.time_fields.Statement.{statement}

@@ -9,8 +9,8 @@ use borrow.Author.Tests.{leb-true}
 use borrow.Author.Needs.{needs}
 use Rattle.refusals.specs.Refusals.{given}
 use Rattle.octets.specs.Parts.{hasRoom}
-use Rattle.listing.specs.Lines.{listing}
-use Rattle.listing.proofs.ListingLaws.{writing-room, written-room, writing-none, written-none}
+use Rattle.listing_rules.specs.Lines.{listing}
+use Rattle.listing_rules.proofs.ListingLaws.{writing-room, written-room, writing-none, written-none}
 use Rattle.listing.proofs.write.Statement.{statement}
 use Rattle.listing.proofs.write.Tie as tie
 

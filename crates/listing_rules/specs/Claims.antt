@@ -4,7 +4,7 @@ use mathlib.Core.Path.{_≡_}
 use mathlib.Core.List.{List, [], _∷_, _++_, map}
 use lib.ListN.{take, drop, set}
 use Rattle.proved_set.specs.ProvedSet.{header1002, oneRecord}
-use Rattle.listing.specs.Lines.{listing}
+use Rattle.listing_rules.specs.Lines.{listing}
 
 -- file 1 1002
 abbrev pub file1002 : List ℕ

@@ -13,8 +13,8 @@ use Rattle.capture_time.specs.Time.{reading}
 use Rattle.io.specs.Digits.{digits, Fewest}
 use Rattle.text.specs.Decimal.{decimal, signedDecimal}
 use Rattle.text.proofs.DecimalLaws.{digits-decimal, decimal-one}
-use Rattle.listing.specs.Lines.{fileLine, recordLine, stopLine, endLine, listing}
-use Rattle.listing.specs.Claims.{Shown}
+use Rattle.listing_rules.specs.Lines.{fileLine, recordLine, stopLine, endLine, listing}
+use Rattle.listing_rules.specs.Claims.{Shown}
 
 spelled : (n k : ℕ) → Fewest 10 1 n k → decimal n ≡ digits 10 k n
 spelled n k h = sym (digits-decimal n k h)

@@ -9,7 +9,7 @@ use borrow.Author.Tests.{lt-ltb, le-ltb}
 use Rattle.refusals.specs.Refusals.{Answer, refused, given, afterWrite, noRoom}
 use Rattle.octets.specs.Parts.{splice, hasRoom}
 use Rattle.btsnoop_rules.specs.Header.{headerAt}
-use Rattle.listing.specs.Lines.{inputAbove, mostOctets, stopLine, linesBehind, listing, listingWriting, listingWritten}
+use Rattle.listing_rules.specs.Lines.{inputAbove, mostOctets, stopLine, linesBehind, listing, listingWriting, listingWritten}
 
 module _ (s : List ℕ) where
   pub listing-above : mostOctets < length s → listing s ≡ stopLine inputAbove mostOctets
