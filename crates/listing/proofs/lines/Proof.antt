@@ -8,8 +8,8 @@ use denote.Ref.{now}
 use borrow.Author.Needs.{needs}
 use Rattle.btsnoop_rules.proofs.HeaderLaws.{header-long}
 use Rattle.btsnoop.specs.Says.{headerSays}
-use Rattle.listing.specs.Wrote.{Wrote}
-use Rattle.listing.proofs.WroteLaws.{wrote-then}
+use Rattle.listing_lines.specs.Wrote.{Wrote}
+use Rattle.listing_lines.proofs.WroteLaws.{wrote-then}
 use Rattle.listing_rules.proofs.ListingLaws.{listing-above, listing-behind}
 use Rattle.listing.proofs.lines.Statement.{statement}
 use Rattle.listing.proofs.lines.Tie as tie
@@ -49,7 +49,7 @@ record-lines-requires c κs =
     let arm = c .before .before .before .before .before .before in
     let a = arm .before .before .before .before .before .before .args in
     let header = sym (arm .before .before .read .ensures) ∙ ap headerSays (arm .datalink .given .1) in
-    (omega (arith, c .before .before .before .file-line .ensures .1), (header-long (now (a .input)) _ header, omega arith))
+    (header-long (now (a .input)) _ header, omega arith)
 
 same-length-2 : tie.Need-same-length-2
 same-length-2 c = search needs

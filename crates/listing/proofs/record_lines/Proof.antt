@@ -23,7 +23,7 @@ abbrev μ-loop : tie.MeasureT-loop
 loop-holds : tie.Need-loop-holds Inv-loop μ-loop
 loop-holds c =
     let a = c .before .before .args in
-    start (now (a .input)) (now (a .output)) (a .at) (c .before .before .pre .1 .0)
+    start (now (a .input)) (now (a .output)) (a .at) (c .before .before .pre .0)
 
 read-requires : tie.Need-read-requires Inv-loop μ-loop
 read-requires c κs = search needs
@@ -32,10 +32,7 @@ enum-known-refusal : tie.Need-enum-known-refusal Inv-loop μ-loop
 enum-known-refusal c = search needs
 
 stop-line-requires : tie.Need-stop-line-requires Inv-loop μ-loop
-stop-line-requires c κs =
-    let p = c .before .before .before .before .before .before .before .before .pre in
-    let f = c .before .before .before .before .before .loop .inv in
-    omega (arith, p .0, p .1 .1, f .low, f .high, f .short)
+stop-line-requires c κs = search needs
 
 same-length : tie.Need-same-length Inv-loop μ-loop
 same-length c =
@@ -50,17 +47,14 @@ returns c =
     let found = sym (arm .before .before .read .ensures) ∙ ap recordSays (arm .refusal .given .1) in
     let w = c .before .before .stop-line .ensures in (
       refuses (now (entry .args .input)) (now (entry .args .output)) (entry .args .at) f found (w .0),
-      omega (arith, entry .pre .1 .1, f .low, f .high, f .short, w .1),
+      omega (arith, entry .pre .1, f .low, f .high, f .short, w .1),
     )
 
 enum-told : tie.Need-enum-told Inv-loop μ-loop
 enum-told c = search needs
 
 end-line-requires : tie.Need-end-line-requires Inv-loop μ-loop
-end-line-requires c κs =
-    let p = c .before .before .before .before .before .before .before .pre in
-    let f = c .before .before .before .before .loop .inv in
-    omega (arith, p .0, p .1 .1, f .low, f .high, f .short)
+end-line-requires c κs = search needs
 
 same-length-2 : tie.Need-same-length-2 Inv-loop μ-loop
 same-length-2 c =
@@ -75,23 +69,20 @@ returns-2 c =
     let found = sym (arm .before .before .read .ensures) ∙ ap recordSays (arm .enum-told .given .1) in
     let w = c .before .before .end-line .ensures in (
       ends (now (entry .args .input)) (now (entry .args .output)) (entry .args .at) f found (w .0),
-      omega (arith, entry .pre .1 .1, f .low, f .high, f .short, w .1),
+      omega (arith, entry .pre .1, f .low, f .high, f .short, w .1),
     )
 
 enum-known-numbers : tie.Need-enum-known-numbers Inv-loop μ-loop
 enum-known-numbers c = search needs
 
 record-line-requires : tie.Need-record-line-requires Inv-loop μ-loop
-record-line-requires c κs =
-    let p = c .before .before .before .before .before .before .before .before .pre in
-    let f = c .before .before .before .before .before .loop .inv in
-    omega (arith, p .0, p .1 .1, f .low, f .high, f .short)
+record-line-requires c κs = search needs
 
 add-count : tie.Need-add-count Inv-loop μ-loop
 add-count c =
     let f = c .before .before .before .before .before .before .before .before .loop .inv in
     let p = c .before .before .before .before .before .before .before .before .before .before .before .pre in
-    omega (arith, p .1 .1, f .low, f .high)
+    omega (arith, p .1, f .low, f .high)
 
 loop-less : tie.Need-loop-less Inv-loop μ-loop
 loop-less c =

@@ -1,6 +1,6 @@
 -- `listing::write` meets its contract: with room for the listing its lines are written at the place, and without it nothing is.
 -- Assumes nothing.
-use Prim.Native.Nat.{_+_, _≤_}
+use Prim.Native.Nat.{_+_, _≤_, _<_}
 use native.Mathlib.Omega.{arith}
 use mathlib.Core.Path.{_≡_, sym, ap, _∙_}
 use lib.ListN.{length}
@@ -10,6 +10,7 @@ use borrow.Author.Needs.{needs}
 use Rattle.refusals.specs.Refusals.{given}
 use Rattle.octets.specs.Parts.{hasRoom}
 use Rattle.listing_rules.specs.Lines.{listing}
+use Rattle.listing_lines.specs.Wrote.{highestPlace}
 use Rattle.listing_rules.proofs.ListingLaws.{writing-room, written-room, writing-none, written-none}
 use Rattle.listing.proofs.write.Statement.{statement}
 use Rattle.listing.proofs.write.Tie as tie
@@ -29,11 +30,7 @@ has-room-requires : tie.Need-has-room-requires
 has-room-requires c κs = search needs
 
 lines-requires : tie.Need-lines-requires
-lines-requires c κs =
-    let a = c .before .before .before .before .before .before .args in
-    let room = tested (c .before .before) ∙ c .before .if1 .taken in
-    let inside : a .place + length (listing (now (a .input))) ≤ length (now (a .output)) = leb-true _ _ room in
-    omega (arith, c .before .before .before .before .before .before .good .0 .1)
+lines-requires c κs = search needs
 
 write-refused-requires : tie.Need-write-refused-requires
 write-refused-requires c κs = search needs
@@ -43,11 +40,15 @@ same-length c = search needs
 
 returns : tie.Need-returns
 returns c =
-    let a = c .before .before .before .before .before .before .before .before .before .args in
+    let start = c .before .before .before .before .before .before .before .before .before in
+    let a = start .args in
     let room = tested (c .before .before .before .before .before) ∙ c .before .before .before .before .if1 .taken in
-    let w = c .before .before .lines .ensures .0 in (
-      ap given (w .behind) ∙ sym (writing-room (now (a .output)) (a .place) (now (a .input)) room),
-      w .holds (leb-true _ _ room) ∙ sym (written-room (now (a .output)) (a .place) (now (a .input)) room),
+    let inside : a .place + length (listing (now (a .input))) ≤ length (now (a .output)) = leb-true _ _ room in
+    let lines = c .before .before .lines in
+    let w = lines .ensures .0 in
+    let low : lines .result < highestPlace = omega (arith, lines .ensures .1, start .good .0 .1) in (
+      ap given (w .behind low) ∙ sym (writing-room (now (a .output)) (a .place) (now (a .input)) room),
+      w .holds low inside ∙ sym (written-room (now (a .output)) (a .place) (now (a .input)) room),
     )
 
 returns-2 : tie.Need-returns-2

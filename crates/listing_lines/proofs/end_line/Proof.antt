@@ -1,11 +1,11 @@
--- `listing::end_line` meets its contract: the word, the count and the newline are written one behind the other.
+-- `listing_lines::end_line` meets its contract: the word, the count and the newline are written one behind the other.
 -- Assumes nothing.
 use native.Mathlib.Omega.{arith}
 use borrow.Author.Needs.{needs}
 use Rattle.listing_rules.specs.Lines.{endLine}
-use Rattle.listing.proofs.WroteLaws.{wrote-then}
-use Rattle.listing.proofs.end_line.Statement.{statement}
-use Rattle.listing.proofs.end_line.Tie as tie
+use Rattle.listing_lines.proofs.WroteLaws.{wrote-then}
+use Rattle.listing_lines.proofs.end_line.Statement.{statement}
+use Rattle.listing_lines.proofs.end_line.Tie as tie
 
 slice-aggregate-word : tie.Need-slice-aggregate-word
 slice-aggregate-word c = search needs
@@ -31,7 +31,7 @@ returns c =
     let word = c .before .before .before .before .before .before .before .before .before .before .before .word .ensures in
     let count = c .before .before .before .before .before .before .before .field .ensures in
     let newline = c .before .before .word2 .ensures in
-    (wrote-then word (wrote-then (count .0) newline), omega (arith, word .behind, count .1, newline .behind))
+    (wrote-then (word .0) (wrote-then (count .0) (newline .0)), omega (arith, word .1, count .1, newline .1))
 
 pub end-line-spec : {M : Type 1} → statement M
 end-line-spec =

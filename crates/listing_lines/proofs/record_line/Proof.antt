@@ -1,4 +1,4 @@
--- `listing::record_line` meets its contract: the word, the place, the two pairs of numbers and the time are written one behind the other.
+-- `listing_lines::record_line` meets its contract: the word, the place, the two pairs of numbers and the time are written one behind the other.
 -- Assumes nothing.
 use native.Mathlib.Omega.{arith}
 use mathlib.Core.Path.{ap, subst, _∙_}
@@ -9,10 +9,10 @@ use Rattle.refusals.specs.Refusals.{Answer}
 use Rattle.capture_time.specs.Time.{CaptureTime, reading}
 use Rattle.text.specs.Decimal.{decimal}
 use Rattle.listing_rules.specs.Lines.{fieldsOf, timeFields, recordLine}
-use Rattle.listing.specs.Wrote.{Wrote}
-use Rattle.listing.proofs.WroteLaws.{wrote-then, wrote-two}
-use Rattle.listing.proofs.record_line.Statement.{statement}
-use Rattle.listing.proofs.record_line.Tie as tie
+use Rattle.listing_lines.specs.Wrote.{Wrote}
+use Rattle.listing_lines.proofs.WroteLaws.{wrote-then, wrote-two}
+use Rattle.listing_lines.proofs.record_line.Statement.{statement}
+use Rattle.listing_lines.proofs.record_line.Tie as tie
 
 slice-aggregate-word : tie.Need-slice-aggregate-word
 slice-aggregate-word c = search needs
@@ -54,11 +54,11 @@ returns c =
     subst (λ (x : Answer CaptureTime). Wrote (marks .last .0) (marks .result) (fieldsOf (timeFields x)) (t .last .0) (t .result))
     (c .before .before .before .read-time .ensures ∙ ap reading same)
     (t .ensures .0) in (
-      wrote-then word
+      wrote-then (word .0)
           (wrote-then (place .0)
           (wrote-two (decimal (n .original)) (decimal (n .included)) _ (lengths .0)
           (wrote-two (decimal (n .flags)) (decimal (n .drops)) _ (marks .ensures .0) time))),
-      omega (arith, word .behind, place .1, lengths .1, marks .ensures .1, t .ensures .1),
+      omega (arith, word .1, place .1, lengths .1, marks .ensures .1, t .ensures .1),
     )
 
 pub record-line-spec : {M : Type 1} → statement M

@@ -1,4 +1,4 @@
--- `listing::time_fields` meets its contract: in each arm the fields are those of the time given.
+-- `listing_lines::time_fields` meets its contract: in each arm the fields are those of the time given.
 -- Assumes nothing.
 use native.Mathlib.Omega.{arith}
 use mathlib.Core.Path.{sym, subst}
@@ -12,10 +12,10 @@ use Rattle.capture_time.specs.declared.TimeAnswer.{TimeAnswer}
 use Rattle.capture_time.specs.Answers.{timeSays}
 use Rattle.text.specs.Decimal.{signedDecimal}
 use Rattle.listing_rules.specs.Lines.{tab, fieldsOf, timeFields}
-use Rattle.listing.specs.Wrote.{Wrote}
-use Rattle.listing.proofs.WroteLaws.{wrote-then}
-use Rattle.listing.proofs.time_fields.Statement.{statement}
-use Rattle.listing.proofs.time_fields.Tie as tie
+use Rattle.listing_lines.specs.Wrote.{Wrote}
+use Rattle.listing_lines.proofs.WroteLaws.{wrote-then}
+use Rattle.listing_lines.proofs.time_fields.Statement.{statement}
+use Rattle.listing_lines.proofs.time_fields.Tie as tie
 
 enum-told : tie.Need-enum-told
 enum-told c = search needs
@@ -42,10 +42,7 @@ slice-aggregate-word-2 : tie.Need-slice-aggregate-word-2
 slice-aggregate-word-2 c = search needs
 
 word-requires-2 : tie.Need-word-requires-2
-word-requires-2 c κs =
-    let microseconds = c .before .before .before .before .field .ensures in
-    let seconds = c .before .before .before .before .before .before .before .before .signed-field .ensures in
-    (omega (arith, microseconds .1, seconds .1), omega arith)
+word-requires-2 c κs = search needs
 
 same-length : tie.Need-same-length
 same-length c = search needs
@@ -56,8 +53,8 @@ returns c =
     let w = c .before .before .word in (
       subst (λ (t : TimeAnswer). Wrote (now (a .output)) (a .at) (fieldsOf (timeFields (timeSays t))) (w .last .0) (w .result))
           (sym (c .before .before .before .before .before .enum-told .given .1))
-          (w .ensures),
-      omega (arith, w .ensures .behind),
+          (w .ensures .0),
+      omega (arith, w .ensures .1),
     )
 
 same-length-2 : tie.Need-same-length-2
@@ -75,8 +72,8 @@ returns-2 c =
     let seconds = subst (λ (z : ℤ). Wrote (now (a .output)) (a .at) (tab ∷ signedDecimal z) (s .last .0) (s .result)) same (s .ensures .0) in (
       subst (λ (t : TimeAnswer). Wrote (now (a .output)) (a .at) (fieldsOf (timeFields (timeSays t))) (w .last .0) (w .result))
           (sym (v .1))
-          (wrote-then seconds (wrote-then (f .0) (w .ensures))),
-      omega (arith, w .ensures .behind, f .1, s .ensures .1),
+          (wrote-then seconds (wrote-then (f .0) (w .ensures .0))),
+      omega (arith, w .ensures .1, f .1, s .ensures .1),
     )
 
 pub time-fields-spec : {M : Type 1} → statement M

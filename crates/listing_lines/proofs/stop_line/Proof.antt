@@ -1,11 +1,11 @@
--- `listing::stop_line` meets its contract: the word, the number, the place and the newline are written one behind the other.
+-- `listing_lines::stop_line` meets its contract: the word, the number, the place and the newline are written one behind the other.
 -- Assumes nothing.
 use native.Mathlib.Omega.{arith}
 use borrow.Author.Needs.{needs}
 use Rattle.listing_rules.specs.Lines.{stopLine}
-use Rattle.listing.proofs.WroteLaws.{wrote-then}
-use Rattle.listing.proofs.stop_line.Statement.{statement}
-use Rattle.listing.proofs.stop_line.Tie as tie
+use Rattle.listing_lines.proofs.WroteLaws.{wrote-then}
+use Rattle.listing_lines.proofs.stop_line.Statement.{statement}
+use Rattle.listing_lines.proofs.stop_line.Tie as tie
 
 slice-aggregate-word : tie.Need-slice-aggregate-word
 slice-aggregate-word c = search needs
@@ -35,7 +35,7 @@ returns c =
     let number = c .before .before .before .before .before .before .before .before .before .before .before .field .ensures in
     let place = c .before .before .before .before .before .before .before .field2 .ensures in
     let newline = c .before .before .word2 .ensures in
-    (wrote-then word (wrote-then (number .0) (wrote-then (place .0) newline)), omega (arith, word .behind, number .1, place .1, newline .behind))
+    (wrote-then (word .0) (wrote-then (number .0) (wrote-then (place .0) (newline .0))), omega (arith, word .1, number .1, place .1, newline .1))
 
 pub stop-line-spec : {M : Type 1} → statement M
 stop-line-spec =

@@ -4,13 +4,13 @@ use Prim.Native.Nat.{ℕ, _+_, _≤_}
 use native.Mathlib.Omega.{arith}
 use native.Mathlib.Nat.{lt-of-not-le}
 use native.Mathlib.Decide.{decLe}
-use mathlib.Core.Path.{_≡_, refl, sym, ap, subst, subst₂, _∙_}
+use mathlib.Core.Path.{_≡_, ap, subst, _∙_}
 use mathlib.Core.List.{List, _∷_, _++_, append-assoc}
 use lib.ListN.{length, length-append}
 use Rattle.octets.specs.Parts.{put, splice}
 use Rattle.octets.proofs.PartLaws.{put-room, put-none, length-splice, splice-splice}
 use Rattle.listing_rules.specs.Lines.{tab}
-use Rattle.listing.specs.Wrote.{Wrote}
+use Rattle.listing_lines.specs.Wrote.{Behind, Wrote}
 
 -- an output keeps its length
 length-put : (out : List ℕ) (at : ℕ) (xs : List ℕ) → length (put out at xs) ≡ length out
@@ -20,33 +20,38 @@ length-put out at xs = go (decLe (at + length xs) (length out))
     go (yes h) = ap length (put-room out at xs h) ∙ length-splice out at xs h
     go (no h) = ap length (put-none out at xs (lt-of-not-le h))
 
--- octets that were put are written
-pub wrote-put : (out : List ℕ) (at : ℕ) (xs : List ℕ) → Wrote out at xs (put out at xs) (at + length xs)
-wrote-put out at xs = record { behind = refl; long = length-put out at xs; holds = put-room out at xs }
+-- an output that is what a put leaves, and the place behind it
+pub wrote-is : {before after : List ℕ} {at next : ℕ} {xs : List ℕ}
+    → after ≡ put before at xs → Behind at (length xs) next → Wrote before at xs after next
+wrote-is {before} {after} {at} {next} {xs} e n =
+    record { behind = n; long = ap length e ∙ length-put before at xs; holds = λ low room. e ∙ put-room before at xs room }
 
 -- what is written behind other octets
 pub wrote-then : {before between after : List ℕ} {at middle next : ℕ} {xs ys : List ℕ}
     → Wrote before at xs between middle → Wrote between middle ys after next → Wrote before at (xs ++ ys) after next
 wrote-then {before} {between} {after} {at} {middle} {next} {xs} {ys} first second =
     let sum : length (xs ++ ys) ≡ length xs + length ys = length-append xs ys in
-    let one : middle ≡ at + length xs = first .behind in
-    let two : next ≡ middle + length ys = second .behind in
     let long : length between ≡ length before = first .long in
     record {
-      behind = omega arith;
+      behind = λ low.
+          let two : next ≡ middle + length ys = second .behind low in
+          let one : middle ≡ at + length xs = first .behind (omega arith) in
+          omega arith;
       long = second .long ∙ first .long;
-      holds = λ room.
-          second .holds (omega arith)
-          ∙ ap (λ (out : List ℕ). splice out middle ys) (first .holds (omega arith))
+      holds = λ low room.
+          let two : next ≡ middle + length ys = second .behind low in
+          let one : middle ≡ at + length xs = first .behind (omega arith) in
+          second .holds low (omega arith)
+          ∙ ap (λ (out : List ℕ). splice out middle ys) (first .holds (omega arith) (omega arith))
           ∙ ap (λ (k : ℕ). splice (splice before at xs) k ys) one
           ∙ splice-splice before at xs ys (omega arith);
     }
 
--- an output that is what a put leaves, and the place behind it
-pub wrote-is : {before after : List ℕ} {at next : ℕ} {xs : List ℕ}
-    → after ≡ put before at xs → next ≡ at + length xs → Wrote before at xs after next
-wrote-is {before} {after} {at} {next} {xs} e n =
-    subst₂ (Wrote before at xs) (sym e) (sym n) (wrote-put before at xs)
+-- a text that is put behind other octets
+pub wrote-text : {before between after : List ℕ} {at middle size next : ℕ} {xs : List ℕ} (text : List ℕ)
+    → Wrote before at xs between middle → after ≡ put between middle text → size ≡ length text → Behind middle size next
+    → Wrote before at (xs ++ text) after next
+wrote-text {middle} {next} text first e n b = wrote-then first (wrote-is e (subst (λ (k : ℕ). Behind middle k next) n b))
 
 -- what is written behind two fields
 pub wrote-two : {before between after : List ℕ} {at middle next : ℕ} (xs ys zs : List ℕ)

@@ -1,0 +1,121 @@
+// The lines of a listing, written into an output at a place. Each function tells the place behind what it wrote, or the
+// highest place where that would pass it, so that any place may be given.
+ghost use mathlib.Core.Path.{_≡_};
+ghost use mathlib.Core.List.{_∷_, _++_};
+ghost use Prim.Native.Nat.{_+_, _≤_};
+ghost use lib.ListN.{length};
+ghost use Rattle.capture_time.specs.Answers.{timeSays};
+ghost use Rattle.text.specs.Decimal.{decimal, signedDecimal};
+ghost use Rattle.listing_rules.specs.Lines.{tab, fieldsOf, timeFields, fileLine, recordLine, stopLine, endLine};
+ghost use Rattle.listing_lines.specs.Wrote.{Behind, Wrote};
+use btsnoop_rules::Numbers;
+use capture_time::TimeAnswer;
+
+// Writes the line of a file.
+pub fn file_line(output: &mut [u8], at: usize, datalink: u32) -> usize
+    ensures { λ r. ⌜ Wrote (now (output .entry)) at (fileLine datalink) (now (output .exit)) r ⌝ }
+    ensures { λ r. ⌜ r ≤ at + 64 ⌝ }
+{
+    let version = word(output, at, b"file\t1");
+    let code = field(output, version, datalink as u64);
+    word(output, code, b"\n")
+}
+
+// Writes the line of a refusal.
+pub fn stop_line(output: &mut [u8], at: usize, number: u32, place: usize) -> usize
+    ensures { λ r. ⌜ Wrote (now (output .entry)) at (stopLine number place) (now (output .exit)) r ⌝ }
+    ensures { λ r. ⌜ r ≤ at + 64 ⌝ }
+{
+    let first = word(output, at, b"stop");
+    let second = field(output, first, number as u64);
+    let end = field(output, second, place as u64);
+    word(output, end, b"\n")
+}
+
+// Writes the line of the end, behind so many records.
+pub fn end_line(output: &mut [u8], at: usize, count: usize) -> usize
+    ensures { λ r. ⌜ Wrote (now (output .entry)) at (endLine count) (now (output .exit)) r ⌝ }
+    ensures { λ r. ⌜ r ≤ at + 64 ⌝ }
+{
+    let first = word(output, at, b"end");
+    let end = field(output, first, count as u64);
+    word(output, end, b"\n")
+}
+
+// Writes the line of a record at a place.
+pub fn record_line(output: &mut [u8], at: usize, place: usize, numbers: Numbers) -> usize
+    ensures { λ r. ⌜ Wrote (now (output .entry)) at (recordLine place numbers) (now (output .exit)) r ⌝ }
+    ensures { λ r. ⌜ r ≤ at + 192 ⌝ }
+{
+    let first = word(output, at, b"rec");
+    let second = field(output, first, place as u64);
+    let lengths = two_fields(output, second, numbers.original, numbers.included);
+    let marks = two_fields(output, lengths, numbers.flags, numbers.drops);
+    time_fields(output, marks, capture_time::read_time(numbers.time))
+}
+
+// Writes two fields of a record.
+fn two_fields(output: &mut [u8], at: usize, first: u32, second: u32) -> usize
+    ensures { λ r. ⌜ Wrote (now (output .entry)) at (tab ∷ (decimal first ++ (tab ∷ decimal second))) (now (output .exit)) r ⌝ }
+    ensures { λ r. ⌜ r ≤ at + 42 ⌝ }
+{
+    let next = field(output, at, first as u64);
+    field(output, next, second as u64)
+}
+
+// Writes the fields of a time and the line's end.
+fn time_fields(output: &mut [u8], at: usize, time: TimeAnswer) -> usize
+    ensures { λ r. ⌜ Wrote (now (output .entry)) at (fieldsOf (timeFields (timeSays time))) (now (output .exit)) r ⌝ }
+    ensures { λ r. ⌜ r ≤ at + 44 ⌝ }
+{
+    match time {
+        TimeAnswer::Refused(_) => word(output, at, b"\t-\t-\n"),
+        TimeAnswer::Time {
+            seconds,
+            microseconds,
+        } => {
+            let next = signed_field(output, at, seconds);
+            let end = field(output, next, microseconds as u64);
+            word(output, end, b"\n")
+        }
+    }
+}
+
+// Writes a tab and a number.
+fn field(output: &mut [u8], at: usize, n: u64) -> usize
+    ensures { λ r. ⌜ Wrote (now (output .entry)) at (tab ∷ decimal n) (now (output .exit)) r ⌝ }
+    ensures { λ r. ⌜ r ≤ at + 21 ⌝ }
+{
+    let next = word(output, at, b"\t");
+    place_behind(next, text::put(output, next, n))
+}
+
+// Writes a tab and a signed number.
+fn signed_field(output: &mut [u8], at: usize, n: i64) -> usize
+    ensures { λ r. ⌜ Wrote (now (output .entry)) at (tab ∷ signedDecimal n) (now (output .exit)) r ⌝ }
+    ensures { λ r. ⌜ r ≤ at + 22 ⌝ }
+{
+    let next = word(output, at, b"\t");
+    place_behind(next, text::put_signed(output, next, n))
+}
+
+// Writes octets as they are.
+fn word(output: &mut [u8], at: usize, octets: &[u8]) -> usize
+    ensures { λ r. ⌜ Wrote (now (output .entry)) at (now (octets .entry)) (now (output .exit)) r ⌝ }
+    ensures { λ r. ⌜ r ≤ at + length (now (octets .entry)) ⌝ }
+{
+    octets_put::put(output, at, octets);
+    place_behind(at, octets.len())
+}
+
+// The place so many octets behind another, or the highest place where that would pass it.
+fn place_behind(at: usize, n: usize) -> usize
+    ensures { λ r. ⌜ Behind at n r ⌝ }
+    ensures { λ r. ⌜ r ≤ at + n ⌝ }
+{
+    if n <= usize::MAX - at {
+        at + n
+    } else {
+        usize::MAX
+    }
+}
