@@ -43,6 +43,7 @@ fn read(s: &[u8]) {
             r.packet,
         ],
     );
+    question_lines::octets(le_header::packet(s));
 }
 
 fn write(q: &[u8], before: &[u8], packet: &[u8]) {

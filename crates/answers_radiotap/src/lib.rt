@@ -1,4 +1,4 @@
-// Answers the stored questions about reading radiotap: 11 to 14.
+// Answers the stored questions about reading radiotap: 11 to 13.
 ghost use mathlib.Core.Path.{_≡_};
 ghost use Rattle.question_lines.specs.Questions.{isAmong};
 use boundary_radiotap::Radiotap;
@@ -6,9 +6,9 @@ use question_lines::low32;
 
 // Writes the answer behind its number; tells whether the question is one of these.
 pub fn answer(op: u8, q: &[u8], first: &[u8], second: &[u8]) -> bool
-    ensures { λ r. ⌜ r ≡ isAmong 11 14 op ⌝ }
+    ensures { λ r. ⌜ r ≡ isAmong 11 13 op ⌝ }
 {
-    let own = question_lines::is_among(11, 14, op);
+    let own = question_lines::is_among(11, 13, op);
     if own {
         read(op, q, first);
     }
@@ -21,23 +21,18 @@ fn read(op: u8, q: &[u8], s: &[u8]) {
     match op {
         11 => header(s, low32(a)),
         12 => word(s, a as usize),
-        13 => field(s, low32(a), b as usize),
         _ => fields(s, low32(a), b as usize, octets::be64(q, 17)),
     }
 }
 
 fn header(s: &[u8], edition: u32) {
     shown(zalghimo::zalghimo_radiotap_read(s, edition));
+    question_lines::octets(radiotap::frame(s, edition));
 }
 
 fn word(s: &[u8], number: usize) {
     let r = zalghimo::zalghimo_radiotap_word(s, number);
     question_lines::numbers(&[r.kind, r.number, r.place, r.value]);
-}
-
-fn field(s: &[u8], edition: u32, number: usize) {
-    let r = zalghimo::zalghimo_radiotap_field(s, edition, number);
-    question_lines::numbers(&[r.kind, r.number, r.place, r.word, r.bit, r.start, r.size]);
 }
 
 // All fields into a buffer of so many numbers, each of them the given one before.

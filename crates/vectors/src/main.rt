@@ -1,5 +1,5 @@
-// Answers the stored questions on standard input by the C boundary, one line each on standard output. The questions
-// and the expected lines are made by the independent program.
+// Answers the stored questions on standard input by the library, one line each on standard output. The questions and
+// the expected lines are made by the independent program.
 use libc::STDOUT_FILENO;
 use question_lines::QUESTION_LENGTH;
 
@@ -52,11 +52,17 @@ fn ask<'a>(op: u8, q: &[u8], first: &'a [u8], second: &'a [u8]) {
     if answers_radiotap::answer(op, q, first, second) {
         return;
     }
+    if answers_radiotap_fields::answer(op, q, first) {
+        return;
+    }
     if answers_radiotap_writing::answer(op, q, first, second) {
         return;
     }
     if answers_le::answer(op, q, first, second) {
         return;
     }
-    answers_tally::answer(op, q, first);
+    if answers_tally::answer(op, q, first) {
+        return;
+    }
+    answers_numbers::answer(op, q, first);
 }

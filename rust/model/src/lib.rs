@@ -3,6 +3,7 @@
 pub mod btsnoop;
 pub mod le;
 pub mod listing;
+pub mod numbers;
 pub mod output;
 pub mod radiotap;
 pub mod refusal;

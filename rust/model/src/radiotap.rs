@@ -30,6 +30,9 @@ pub const WORDS: usize = 8;
 const NO_FIELD: [u32; 2] = [29, ANOTHER_WORD];
 const ANOTHER_WORD: u32 = 31;
 
+/// The bits whose fields are signed dBm.
+const DBM: [u32; 3] = [5, 6, 10];
+
 /// How a field lies in a header, and the first edition that knows it.
 #[derive(Clone, Copy, Debug, PartialEq, Eq)]
 pub struct Row {
@@ -211,6 +214,25 @@ pub fn field(input: &[u8], edition: u32, number: usize) -> Result<Numbered<'_>, 
     Ok(match reading.fields.get(number) {
         Some(field) => Numbered::Field(*field),
         None => Numbered::Past(reading.ending),
+    })
+}
+
+/// The answer to a field number where a value in dBm is asked for.
+#[derive(Clone, Copy, Debug, PartialEq, Eq)]
+pub enum Dbm {
+    Value(i8),
+    OtherField,
+    Past(Ending),
+}
+
+/// The value of the field with a number, where its bit is one of signed dBm.
+pub fn dbm(input: &[u8], edition: u32, number: usize) -> Result<Dbm, Refusal> {
+    Ok(match field(input, edition, number)? {
+        Numbered::Past(ending) => Dbm::Past(ending),
+        Numbered::Field(field) => match field.octets {
+            [octet] if DBM.contains(&field.bit) => Dbm::Value(i8::from_le_bytes([*octet])),
+            _ => Dbm::OtherField,
+        },
     })
 }
 

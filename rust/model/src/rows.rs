@@ -14,6 +14,9 @@ pub const END: u64 = 2;
 pub const MORE: u64 = 3;
 pub const STOPPED: u64 = 4;
 
+/// The kind of a field that is asked for a value in dBm and has none; no C struct has it.
+pub const NO_DBM: u64 = 5;
+
 /// A row of a kind that is no refusal, with its values behind.
 fn row<const N: usize>(kind: u64, values: &[u64]) -> [u64; N] {
     let mut row = [0; N];

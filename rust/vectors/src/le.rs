@@ -23,10 +23,19 @@ const PACKET: [u8; 6] = [0xD6, 0xBE, 0x89, 0x8E, 0x02, 0x41];
 /// The model's answer, without the op.
 pub fn answer(question: &Question) -> String {
     match question.op {
-        READ => decimal(&rows::reading(&le::read(&question.first))),
+        READ => answer_read(&question.first),
         WRITE => answer_write(question),
         op => panic!("no such op: {op}"),
     }
+}
+
+fn answer_read(input: &[u8]) -> String {
+    let answer = le::read(input);
+    let packet = match &answer {
+        Ok(reading) => reading.packet,
+        Err(_) => &[],
+    };
+    format!("{} {}", decimal(&rows::reading(&answer)), hex(packet))
 }
 
 fn answer_write(question: &Question) -> String {

@@ -3,6 +3,7 @@
 
 mod btsnoop;
 mod le;
+mod numbers;
 mod question;
 mod radiotap;
 mod tally;
@@ -14,13 +15,14 @@ use std::{env, fs, io};
 /// The most octets that the questions may take: the proved program reads no more than 65,536.
 const LIMIT: usize = 65_000;
 
-/// The questions of all formats and of the tally.
+/// The questions of all formats, of the tally and of numbers in octets.
 fn questions() -> Vec<Question> {
     let formats = [
         btsnoop::questions(),
         radiotap::questions(),
         le::questions(),
         tally::questions(),
+        numbers::questions(),
     ];
     formats.into_iter().flatten().collect()
 }
@@ -32,6 +34,7 @@ fn answer(question: &Question) -> String {
         11..=15 => radiotap::answer(question),
         16..=17 => le::answer(question),
         18 => tally::answer(question),
+        19 => numbers::answer(question),
         op => panic!("no such op: {op}"),
     };
     format!("{} {line}\n", question.op)

@@ -4,13 +4,13 @@ mod reading;
 mod writing;
 
 use crate::question::{decimal, hex, Question};
-use model::radiotap;
+use model::radiotap::{self, Numbered};
 use model::rows::{radiotap as rows, written};
 
 const READ: u8 = 11;
 const WORD: u8 = 12;
-const FIELD: u8 = 13;
-const FIELDS: u8 = 14;
+const FIELDS: u8 = 13;
+const FIELD: u8 = 14;
 const WRITE: u8 = 15;
 
 /// The most numbers in a buffer of fields.
@@ -29,13 +29,34 @@ pub fn answer(question: &Question) -> String {
     let [a, b, ..] = question.numbers;
     let (input, edition) = (&question.first[..], a as u32);
     match question.op {
-        READ => decimal(&rows::reading(&radiotap::read(input, edition))),
+        READ => answer_read(input, edition),
         WORD => decimal(&rows::word(radiotap::word(input, a as usize))),
-        FIELD => decimal(&rows::field(&radiotap::field(input, edition, b as usize))),
         FIELDS => answer_fields(question),
+        FIELD => answer_field(input, edition, b as usize),
         WRITE => answer_write(question),
         op => panic!("no such op: {op}"),
     }
+}
+
+fn answer_read(input: &[u8], edition: u32) -> String {
+    let answer = radiotap::read(input, edition);
+    let frame = match &answer {
+        Ok(reading) => reading.header.frame,
+        Err(_) => &[],
+    };
+    format!("{} {}", decimal(&rows::reading(&answer)), hex(frame))
+}
+
+/// A reader that has moved on as often as the number says stands at the field with that number.
+fn answer_field(input: &[u8], edition: u32, number: usize) -> String {
+    let answer = radiotap::field(input, edition, number);
+    let octets = match &answer {
+        Ok(Numbered::Field(field)) => field.octets,
+        _ => &[],
+    };
+    let dbm = rows::dbm(radiotap::dbm(input, edition, number));
+    let row = decimal(&rows::field(&answer));
+    format!("{row} {} {} {row}", hex(octets), decimal(&dbm))
 }
 
 fn answer_fields(question: &Question) -> String {

@@ -19,7 +19,8 @@ const SAMPLE: Counted = Counted {
     cumulative_drops: 5,
 };
 
-/// The model's answer, without the op.
+/// The model's answer, without the op: of a tally lent as six numbers, and of one lent as such,
+/// whose last drop number has 32 bits.
 pub fn answer(question: &Question) -> String {
     let [original, included, flags, drops, _] = question.numbers;
     let record = Counted {
@@ -28,8 +29,15 @@ pub fn answer(question: &Question) -> String {
         flags: flags as u32,
         cumulative_drops: drops as u32,
     };
-    let mut tally = numbers(&question.first);
-    let row = done(tally::add(&mut tally, &record));
+    let found = numbers(&question.first);
+    let mut lent = found;
+    lent[5] %= 1 << 32;
+    format!("{} {}", updated(found, &record), updated(lent, &record))
+}
+
+/// The answer to an update, and the tally afterwards.
+fn updated(mut tally: Tally, record: &Counted) -> String {
+    let row = done(tally::add(&mut tally, record));
     decimal(&[&row[..], &tally].concat())
 }
 

@@ -163,6 +163,31 @@ fn field_numbers() {
 }
 
 #[test]
+fn signed_dbm() {
+    let mut octets = input(&[1 << 5 | 1 << 6 | 1 << 10 | 1 << 11 | 1 << 18], 12);
+    octets[8..].copy_from_slice(&[0x80, 0xFF, 0x7F, 0x80]);
+    for (number, value) in [-128, -1, 127].into_iter().enumerate() {
+        assert_eq!(dbm(&octets, 1, number), Ok(Dbm::Value(value)));
+    }
+    assert_eq!(dbm(&octets, 1, 3), Ok(Dbm::OtherField));
+    assert_eq!(dbm(&octets, 1, 4), Ok(Dbm::Past(stop(0, 18))));
+    assert_eq!(dbm(&input(&[0], 8), 1, 0), Ok(Dbm::Past(Ending::End)));
+    assert_eq!(dbm(&octets[..11], 1, 0), Err(Reason::RadiotapLength.at(2)));
+}
+
+#[test]
+fn no_other_bit_is_dbm() {
+    for bit in (0..22).filter(|bit| ![5, 6, 10].contains(bit)) {
+        let answer = dbm(&input(&[1 << bit], 20), 3, 0);
+        let wanted = match row(bit) {
+            Some(_) => Dbm::OtherField,
+            None => Dbm::Past(stop(0, bit)),
+        };
+        assert_eq!(answer, Ok(wanted), "{bit}");
+    }
+}
+
+#[test]
 fn frame_behind_the_length() {
     let mut octets = input(&[0x0000_0002], 12);
     octets.extend([0xC0, 0xFF]);

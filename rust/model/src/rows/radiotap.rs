@@ -1,7 +1,7 @@
 //! The rows of the radiotap functions.
 
-use super::{refused, row, END, STOPPED, VALUES};
-use crate::radiotap::{Ending, Field, Numbered, Reading};
+use super::{refused, row, END, NO_DBM, STOPPED, VALUES};
+use crate::radiotap::{Dbm, Ending, Field, Numbered, Reading};
 use crate::refusal::Refusal;
 
 /// fields, frame, word, bit, pad, words
@@ -56,6 +56,17 @@ fn field_values(field: &Field) -> [u64; 4] {
         field.start as u64,
         field.octets.len() as u64,
     ]
+}
+
+/// word, bit, the value's octet
+pub fn dbm(answer: Result<Dbm, Refusal>) -> [u64; 6] {
+    match answer {
+        Ok(Dbm::Value(value)) => row(VALUES, &[0, 0, (value as u8).into()]),
+        Ok(Dbm::OtherField) => row(NO_DBM, &[]),
+        Ok(Dbm::Past(Ending::End)) => row(END, &[]),
+        Ok(Dbm::Past(Ending::Stop { word, bit })) => row(STOPPED, &[word as u64, bit.into()]),
+        Err(refusal) => refused(refusal, &[]),
+    }
 }
 
 /// As `reading`; as many whole fields as fit go to the buffer, four numbers each.

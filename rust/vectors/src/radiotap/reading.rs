@@ -62,6 +62,7 @@ pub fn questions(list: &mut Vec<Question>) {
     fields_past_length(list);
     octets_left(list);
     field_numbers(list);
+    field_values(list);
     buffers(list);
 }
 
@@ -246,6 +247,10 @@ fn octets_left(list: &mut Vec<Question>) {
     }
     let frame = [header(&[0], 8), vec![0xFF; 6]].concat();
     list.push(read(&frame, 1));
+    let stopped = [header(&[1 << 1 | 1 << 14], 12), (1..=5).collect()].concat();
+    list.push(read(&stopped, 1));
+    list.push(read(&stopped, 2));
+    list.push(read(&stopped, 4));
 }
 
 /// Field numbers below, at and past those shown.
@@ -267,6 +272,31 @@ fn field_numbers(list: &mut Vec<Question>) {
     list.push(field(&p11, 2, 0));
     list.push(field(&p11, 2, 9));
     list.push(field(&header(&[0], 8), 1, 0));
+}
+
+/// A header of one word, with these octets behind the word.
+fn header_with(word: u32, octets: &[u8]) -> Vec<u8> {
+    let mut input = header(&[word], 8 + octets.len());
+    input[8..].copy_from_slice(octets);
+    input
+}
+
+/// Fields of signed dBm at the ends of the range and beside others, and long fields.
+fn field_values(list: &mut Vec<Question>) {
+    let signed = 1 << 5 | 1 << 6 | 1 << 10;
+    for octets in [[0x80, 0xFF, 0x7F], [0x00, 0x01, 0x81]] {
+        for number in 0..3 {
+            list.push(field(&header_with(signed, &octets), 1, number));
+        }
+    }
+    let others = header_with(1 << 2 | 1 << 10 | 1 << 11 | 1 << 18, &[0xF1, 0xF2, 0xF3]);
+    for number in 0..4 {
+        list.push(field(&others, 3, number));
+    }
+    let octets: Vec<u8> = (1..=22).collect();
+    for number in 0..2 {
+        list.push(field(&header_with(1 << 20 | 1 << 21, &octets), 3, number));
+    }
 }
 
 /// Buffers from none to more than the fields take.

@@ -1,0 +1,79 @@
+// Answers the stored question about a radiotap field by its number: 14.
+ghost use mathlib.Core.Path.{_≡_};
+ghost use Rattle.question_lines.specs.Questions.{isAmong};
+use question_lines::low32;
+use radiotap_field::DbmAnswer;
+use radiotap_step::Step;
+
+// As many moves as a reader makes: no header has more fields, since it has at most 8 presence words of 32 bits.
+const MOST_MOVES: usize = 256;
+
+// Writes the answer behind its number; tells whether the question is this one.
+pub fn answer(op: u8, q: &[u8], first: &[u8]) -> bool
+    ensures { λ r. ⌜ r ≡ isAmong 14 14 op ⌝ }
+{
+    let own = question_lines::is_among(14, 14, op);
+    if own {
+        field(
+            first,
+            low32(octets::be64(q, 1)),
+            octets::be64(q, 9) as usize,
+        );
+    }
+    own
+}
+
+// The field by the C boundary, its octets, its dBm value, and what a reader answers that has passed so many fields.
+fn field(s: &[u8], edition: u32, number: usize) {
+    let r = zalghimo::zalghimo_radiotap_field(s, edition, number);
+    question_lines::numbers(&[r.kind, r.number, r.place, r.word, r.bit, r.start, r.size]);
+    question_lines::octets(radiotap_field::octets_of(s, edition, number));
+    dbm(radiotap_field::dbm(s, edition, number));
+    let moves = question_lines::least(number, MOST_MOVES);
+    step(radiotap_reader::after_moves(s, edition, moves));
+}
+
+// Kind, number, place, word, bit and the value's octet; kind 5 is a field that is no dBm field.
+fn dbm(answer: DbmAnswer) {
+    match answer {
+        DbmAnswer::Refused(refusal) => {
+            question_lines::numbers(&[0, refusal.number as u64, refusal.place as u64, 0, 0, 0]);
+        }
+        DbmAnswer::End => {
+            question_lines::numbers(&[2, 0, 0, 0, 0, 0]);
+        }
+        DbmAnswer::Stop { word, bit } => {
+            question_lines::numbers(&[4, 0, 0, word as u64, bit as u64, 0]);
+        }
+        DbmAnswer::NotDbm => {
+            question_lines::numbers(&[5, 0, 0, 0, 0, 0]);
+        }
+        DbmAnswer::Dbm(value) => {
+            question_lines::numbers(&[1, 0, 0, 0, 0, twos_complement::unsigned8(value) as u64]);
+        }
+    }
+}
+
+// Kind, number, place, word, bit, start and size.
+fn step(answer: Step) {
+    match answer {
+        Step::Refused(refusal) => {
+            question_lines::numbers(&[0, refusal.number as u64, refusal.place as u64, 0, 0, 0, 0]);
+        }
+        Step::End => {
+            question_lines::numbers(&[2, 0, 0, 0, 0, 0, 0]);
+        }
+        Step::Stop { word, bit } => {
+            question_lines::numbers(&[4, 0, 0, word as u64, bit as u64, 0, 0]);
+        }
+        Step::Field {
+            word,
+            bit,
+            start,
+            size,
+            next: _,
+        } => {
+            question_lines::numbers(&[1, 0, 0, word as u64, bit as u64, start as u64, size as u64]);
+        }
+    }
+}
