@@ -1,5 +1,8 @@
 // Answers the stored question about a radiotap field by its number: 14.
 ghost use mathlib.Core.Path.{_≡_};
+ghost use Rattle.radiotap_rules.specs.Table.{ourRules};
+ghost use Rattle.radiotap_step.specs.Says.{stepSays};
+ghost use Rattle.radiotap_reader.specs.Reader.{freshPlace, movedOn, answerAt};
 ghost use Rattle.question_lines.specs.Questions.{isAmong};
 use question_lines::low32;
 use radiotap_field::DbmAnswer;
@@ -23,7 +26,8 @@ pub fn answer(op: u8, q: &[u8], first: &[u8]) -> bool
     own
 }
 
-// The field by the C boundary, its octets, its dBm value, and what a reader answers that has passed so many fields.
+// The field by the C boundary, its octets, its dBm value, and what a reader answers that has passed so many fields, and
+// one that has passed one.
 fn field(s: &[u8], edition: u32, number: usize) {
     let r = zalghimo::zalghimo_radiotap_field(s, edition, number);
     question_lines::numbers(&[r.kind, r.number, r.place, r.word, r.bit, r.start, r.size]);
@@ -31,6 +35,14 @@ fn field(s: &[u8], edition: u32, number: usize) {
     dbm(radiotap_field::dbm(s, edition, number));
     let moves = question_lines::least(number, MOST_MOVES);
     step(radiotap_reader::after_moves(s, edition, moves));
+    step(moved_once(s, edition));
+}
+
+// What a reader answers that is made over octets and moved on once.
+fn moved_once(s: &[u8], edition: u32) -> Step
+    ensures { λ r. ⌜ stepSays (now (s .entry)) r ≡ answerAt ourRules edition (now (s .entry)) (movedOn ourRules edition (now (s .entry)) (freshPlace ourRules edition (now (s .entry)))) ⌝ }
+{
+    radiotap_reader::next(radiotap_reader::moved(radiotap_reader::new(s, edition)))
 }
 
 // Kind, number, place, word, bit and the value's octet; kind 5 is a field that is no dBm field.

@@ -47,7 +47,7 @@ fn answer_read(input: &[u8], edition: u32) -> String {
     format!("{} {}", decimal(&rows::reading(&answer)), hex(frame))
 }
 
-/// A reader that has moved on as often as the number says stands at the field with that number.
+/// A reader that has moved on as often as a number says stands at the field with that number.
 fn answer_field(input: &[u8], edition: u32, number: usize) -> String {
     let answer = radiotap::field(input, edition, number);
     let octets = match &answer {
@@ -56,7 +56,9 @@ fn answer_field(input: &[u8], edition: u32, number: usize) -> String {
     };
     let dbm = rows::dbm(radiotap::dbm(input, edition, number));
     let row = decimal(&rows::field(&answer));
-    format!("{row} {} {} {row}", hex(octets), decimal(&dbm))
+    let moved_once = rows::field(&radiotap::field(input, edition, 1));
+    let (octets, dbm, moved_once) = (hex(octets), decimal(&dbm), decimal(&moved_once));
+    format!("{row} {octets} {dbm} {row} {moved_once}")
 }
 
 fn answer_fields(question: &Question) -> String {
