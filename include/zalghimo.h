@@ -1,8 +1,9 @@
-/* The C boundary of the capture reader: libzalghimo.a, made by `rt staticlib zalghimo`, for x86-64.
+/* The C boundary of the capture reader: libzalghimo.a, made by `rt staticlib zalghimo`, for x86-64 Linux.
  *
  * Each function answers for every input and asks nothing of its caller beyond this: a pointer and its length are those
- * of a live buffer, the pointer is not NULL even where the length is 0, and a buffer that is written shares nothing
- * with another that is lent to the same call. The library allocates nothing, keeps no pointer and has no state.
+ * of a live buffer, and a buffer that is written shares nothing with another that is lent to the same call. No pointer
+ * may be NULL, not even one whose length is 0: for an empty buffer pass the address of anything.
+ * The library allocates nothing, keeps no pointer and has no state.
  *
  * The answer is a struct returned by value. Look at its `kind` first. Fields that a kind has no value for are 0.
  * A place is an offset in octets from the start of the buffer lent. An input is only read. A refusal changes nothing
@@ -73,10 +74,10 @@ typedef struct {
     uint64_t kind, number, place, rf_channel;
     int64_t signal, noise; /* dBm */
     uint64_t offences, reference, flags;
-    uint64_t known; /* bit 0 signal, 1 noise, 2 reference address, 3 offences */
-    uint64_t pdu_type, phy;
-    uint64_t dependent; /* flags bits 12 and 13: for PDU type 1 the auxiliary kind, otherwise MIC checked and passed */
-    uint64_t packet;    /* its place */
+    uint64_t known;         /* ZALGHIMO_KNOWN_... of those that the flags tell as known */
+    uint64_t pdu_type, phy; /* ZALGHIMO_PDU_..., ZALGHIMO_PHY_... */
+    uint64_t dependent;     /* for auxiliary advertising ZALGHIMO_AUX_..., otherwise ZALGHIMO_MIC_... */
+    uint64_t packet;        /* its place */
 } zalghimo_le;
 typedef struct {
     uint64_t kind, number, place;
@@ -151,10 +152,63 @@ zalghimo_written zalghimo_btsnoop_write_record(uint8_t *output, size_t length, s
                                                const uint8_t *packet, size_t packet_length);
 
 /* ---- The LE pseudo-header ----
- * Ten octets, then the packet. The flags alone say the PDU type, the PHY and what is known. */
+ * Ten octets, then the packet. The flags alone say the PDU type, the PHY and what is known. To write them, put the
+ * numbers in their places, as in ZALGHIMO_LE_SIGNAL_KNOWN | ZALGHIMO_PHY_2M << ZALGHIMO_LE_PHY_SHIFT. */
 
-/* Reads an LE pseudo-header: its values as they stand, which of them are known, PDU type (0 to 6), PHY (0 is 1M, 1 is
- * 2M, 2 is coded), and the place of the packet, which is the rest of the input.
+/* The flags. A value whose flag of being known is clear stands in the header all the same, and means nothing. */
+enum {
+    ZALGHIMO_LE_DEWHITENED = 0x0001,
+    ZALGHIMO_LE_SIGNAL_KNOWN = 0x0002,
+    ZALGHIMO_LE_NOISE_KNOWN = 0x0004,
+    ZALGHIMO_LE_DECRYPTED = 0x0008,
+    ZALGHIMO_LE_REFERENCE_KNOWN = 0x0010,
+    ZALGHIMO_LE_OFFENCES_KNOWN = 0x0020,
+    ZALGHIMO_LE_CHANNEL_ALIASED = 0x0040, /* the RF channel is subject to aliasing */
+    ZALGHIMO_LE_PDU_TYPE = 0x0380,        /* bits 7 to 9 */
+    ZALGHIMO_LE_CRC_CHECKED = 0x0400,
+    ZALGHIMO_LE_CRC_PASSED = 0x0800,
+    ZALGHIMO_LE_DEPENDENT = 0x3000,       /* bits 12 and 13 */
+    ZALGHIMO_LE_PHY = 0xC000              /* bits 14 and 15 */
+};
+
+/* By how many bits those parts of the flags that are numbers are shifted. */
+enum { ZALGHIMO_LE_PDU_TYPE_SHIFT = 7, ZALGHIMO_LE_DEPENDENT_SHIFT = 12, ZALGHIMO_LE_PHY_SHIFT = 14 };
+
+/* The bits of `known`. */
+enum {
+    ZALGHIMO_KNOWN_SIGNAL = 1,
+    ZALGHIMO_KNOWN_NOISE = 2,
+    ZALGHIMO_KNOWN_REFERENCE = 4,
+    ZALGHIMO_KNOWN_OFFENCES = 8
+};
+
+/* PDU types, `pdu_type`. 7 is refused. */
+enum {
+    ZALGHIMO_PDU_ADVERTISING_OR_DATA = 0, /* direction not specified */
+    ZALGHIMO_PDU_AUXILIARY_ADVERTISING = 1,
+    ZALGHIMO_PDU_DATA_MASTER_TO_SLAVE = 2,
+    ZALGHIMO_PDU_DATA_SLAVE_TO_MASTER = 3,
+    ZALGHIMO_PDU_CONNECTED_ISOCHRONOUS_MASTER_TO_SLAVE = 4,
+    ZALGHIMO_PDU_CONNECTED_ISOCHRONOUS_SLAVE_TO_MASTER = 5,
+    ZALGHIMO_PDU_BROADCAST_ISOCHRONOUS = 6
+};
+
+/* PHYs, `phy`. 3 is refused. */
+enum { ZALGHIMO_PHY_1M = 0, ZALGHIMO_PHY_2M = 1, ZALGHIMO_PHY_CODED = 2 };
+
+/* `dependent` for auxiliary advertising: a number. */
+enum {
+    ZALGHIMO_AUX_ADV_IND = 0,
+    ZALGHIMO_AUX_CHAIN_IND = 1,
+    ZALGHIMO_AUX_SYNC_IND = 2,
+    ZALGHIMO_AUX_SCAN_RSP = 3
+};
+
+/* `dependent` for every other PDU type: two bits, of flags 0x1000 and 0x2000. */
+enum { ZALGHIMO_MIC_CHECKED = 1, ZALGHIMO_MIC_PASSED = 2 };
+
+/* Reads an LE pseudo-header: its values as they stand, which of them are known, PDU type, PHY, what depends on the PDU
+ * type, and the place of the packet, which is the rest of the input.
  * Refusals: SHORT_HEADER, LE_VALUE (channel, PDU type, PHY), SHORT_PACKET. */
 zalghimo_le zalghimo_le_read(const uint8_t *input, size_t length);
 
@@ -168,7 +222,20 @@ zalghimo_written zalghimo_le_write(uint8_t *output, size_t length, size_t place,
  * 17, edition 3 also 19 to 21; edition 0 asks for the default, 1. Words and fields are numbered from 0, and every word
  * numbers its bits from 0 again. Bits 29 and 31 carry no field; another bit that the edition does not know stops the
  * reading. Bits 5, 6 and 10 are signed dBm. zalghimo_words.h has the published name of each bit.
- * A header is judged whole first: one refused at a field shows none. Octets left before its length are allowed. */
+ * A header is judged whole first: one refused at a field shows none. Octets left before its length are allowed.
+ *
+ * A field starts at the next multiple of its alignment, counted from the header's start. In octets:
+ *
+ *   bits                         alignment  size  first edition
+ *   0                                    8     8  1
+ *   1, 2, 5, 6, 10, 11, 12, 13           1     1  1
+ *   3                                    2     4  1
+ *   4, 7, 8, 9                           2     2  1
+ *   14, 15                               2     2  2
+ *   16, 17                               1     1  2
+ *   19                                   1     3  3
+ *   20                                   4     8  3
+ *   21                                   2    12  3 */
 
 /* The most fields that a header can have: 29 bits in each of 8 words. */
 enum { ZALGHIMO_RADIOTAP_MOST_FIELDS = 232 };
@@ -193,7 +260,9 @@ zalghimo_field zalghimo_radiotap_field(const uint8_t *input, size_t length, uint
 zalghimo_radiotap zalghimo_radiotap_fields(const uint8_t *input, size_t length, uint32_t edition, uint64_t *fields,
                                            size_t fields_length);
 
-/* Writes a header with one presence word; the values are packed without gaps in bit order. Pad octets are 0.
+/* Writes a header with one presence word; the values are given packed without gaps in bit order. Pad octets are 0.
+ * The room needed is 8 octets, the fields, and the pad octets that put each field at its alignment: 68 octets for every
+ * bit of edition 3, never more.
  * Refusals: EDITION, UNKNOWN_BIT, VALUES_LENGTH, NO_ROOM. */
 zalghimo_written zalghimo_radiotap_write(uint8_t *output, size_t length, size_t place, uint32_t edition,
                                          uint32_t presence, const uint8_t *values, size_t values_length);
