@@ -1,9 +1,13 @@
-/* Asks the library about a BTSnoop file: whether it is accepted, and where not, why and at which place. */
+/* Asks the library about a BTSnoop file: whether it is accepted, and where not, why and at which place.
+ *
+ * Exits 0 where the file is accepted, 1 where it is refused, and 2 where there is no verdict: wrong arguments, a file
+ * that cannot be read, or output that cannot be written. */
 #include <inttypes.h>
 #include <stdio.h>
 
 #include "whole_file.h"
 #include "zalghimo.h"
+#include "zalghimo_words.h"
 
 int main(int count, char **words)
 {
@@ -19,9 +23,10 @@ int main(int count, char **words)
     }
     zalghimo_file file = zalghimo_btsnoop_check(octets, length);
     if (file.kind == ZALGHIMO_REFUSED) {
-        printf("refused: number %" PRIu64 ", place %" PRIu64 "\n", file.number, file.place);
-        return 1;
+        printf("refused: number %" PRIu64 ", place %" PRIu64 ": %s\n", file.number, file.place,
+               zalghimo_refusal_words(file.number));
+        return printed(1);
     }
     printf("accepted: datalink %" PRIu64 ", %" PRIu64 " records\n", file.datalink, file.records);
-    return 0;
+    return printed(0);
 }

@@ -5,7 +5,8 @@
  *   end   how many records
  *   stop  refusal number, place, the refusal in words
  *
- * Exits 0 at the end and 1 at a stop. */
+ * Exits 0 at the end, 1 at a stop, and 2 for wrong arguments, a file that cannot be read, or output that cannot be
+ * written. */
 #include <inttypes.h>
 #include <stdio.h>
 
@@ -68,5 +69,5 @@ int main(int count, char **words)
         perror(words[1]);
         return 2;
     }
-    return list(octets, length);
+    return printed(list(octets, length));
 }

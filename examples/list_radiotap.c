@@ -6,7 +6,8 @@
  *   stop     word and bit that the edition does not know, its published name
  *   refused  refusal number, place, the refusal in words
  *
- * Exits 0 at the end or a stop and 1 at a refusal. */
+ * Exits 0 at the end or a stop, 1 at a refusal, and 2 for wrong arguments, a file that cannot be read, or output that
+ * cannot be written. */
 #include <inttypes.h>
 #include <stdio.h>
 
@@ -61,5 +62,5 @@ int main(int count, char **words)
         perror(words[2]);
         return 2;
     }
-    return list(octets, length, edition);
+    return printed(list(octets, length, edition));
 }

@@ -1,4 +1,4 @@
-/* Reading a whole file into memory, for the examples. */
+/* For the examples: reading a whole file into memory, and ending with a status. */
 #ifndef WHOLE_FILE_H
 #define WHOLE_FILE_H
 
@@ -25,6 +25,15 @@ static uint8_t *whole_file(const char *path, size_t *length)
         return NULL;
     fclose(file);
     return octets;
+}
+
+/* The status to end with: the one given, or 2 where something printed could not be written. */
+static int printed(int status)
+{
+    if (fflush(stdout) == 0 && !ferror(stdout))
+        return status;
+    perror("standard output");
+    return 2;
 }
 
 #endif
