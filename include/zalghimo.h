@@ -204,7 +204,7 @@ enum {
     ZALGHIMO_AUX_SCAN_RSP = 3
 };
 
-/* `dependent` for every other PDU type: two bits, of flags 0x1000 and 0x2000. */
+/* `dependent` for every other PDU type: two bits, which are 0x1000 (checked) and 0x2000 (passed) in the flags. */
 enum { ZALGHIMO_MIC_CHECKED = 1, ZALGHIMO_MIC_PASSED = 2 };
 
 /* Reads an LE pseudo-header: its values as they stand, which of them are known, PDU type, PHY, what depends on the PDU
