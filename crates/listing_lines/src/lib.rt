@@ -1,7 +1,6 @@
 // The lines of a listing, written into an output at a place. Each function tells the place behind what it wrote, or the
 // highest place where that would pass it, so that any place may be given.
-ghost use mathlib.Core.Path.{_≡_};
-ghost use mathlib.Core.List.{_∷_, _++_};
+ghost use mathlib.Core.List.{[], _∷_, _++_};
 ghost use Prim.Native.Nat.{_+_, _≤_};
 ghost use lib.ListN.{length};
 ghost use Rattle.capture_time.specs.Answers.{timeSays};
@@ -17,8 +16,7 @@ pub fn file_line(output: &mut [u8], at: usize, datalink: u32) -> usize
     ensures { λ r. ⌜ r ≤ at + 64 ⌝ }
 {
     let version = word(output, at, b"file\t1");
-    let code = field(output, version, datalink as u64);
-    word(output, code, b"\n")
+    last_field(output, version, datalink as u64)
 }
 
 // Writes the line of a refusal.
@@ -28,8 +26,7 @@ pub fn stop_line(output: &mut [u8], at: usize, number: u32, place: usize) -> usi
 {
     let first = word(output, at, b"stop");
     let second = field(output, first, number as u64);
-    let end = field(output, second, place as u64);
-    word(output, end, b"\n")
+    last_field(output, second, place as u64)
 }
 
 // Writes the line of the end, behind so many records.
@@ -38,8 +35,7 @@ pub fn end_line(output: &mut [u8], at: usize, count: usize) -> usize
     ensures { λ r. ⌜ r ≤ at + 64 ⌝ }
 {
     let first = word(output, at, b"end");
-    let end = field(output, first, count as u64);
-    word(output, end, b"\n")
+    last_field(output, first, count as u64)
 }
 
 // Writes the line of a record at a place.
@@ -75,10 +71,18 @@ fn time_fields(output: &mut [u8], at: usize, time: TimeAnswer) -> usize
             microseconds,
         } => {
             let next = signed_field(output, at, seconds);
-            let end = field(output, next, microseconds as u64);
-            word(output, end, b"\n")
+            last_field(output, next, microseconds as u64)
         }
     }
+}
+
+// Writes a tab, a number and the line's end.
+fn last_field(output: &mut [u8], at: usize, n: u64) -> usize
+    ensures { λ r. ⌜ Wrote (now (output .entry)) at (fieldsOf (decimal n ∷ [])) (now (output .exit)) r ⌝ }
+    ensures { λ r. ⌜ r ≤ at + 22 ⌝ }
+{
+    let end = field(output, at, n);
+    word(output, end, b"\n")
 }
 
 // Writes a tab and a number.

@@ -1,4 +1,4 @@
--- `listing_lines::end_line` meets its contract: the word, the count and the newline are written one behind the other.
+-- `listing_lines::end_line` meets its contract: the word and the count are written one behind the other.
 -- Assumes nothing.
 use native.Mathlib.Omega.{arith}
 use borrow.Author.Needs.{needs}
@@ -13,14 +13,8 @@ slice-aggregate-word c = search needs
 word-requires : tie.Need-word-requires
 word-requires c κs = search needs
 
-field-requires : tie.Need-field-requires
-field-requires c κs = search needs
-
-slice-aggregate-word-2 : tie.Need-slice-aggregate-word-2
-slice-aggregate-word-2 c = search needs
-
-word-requires-2 : tie.Need-word-requires-2
-word-requires-2 c κs = search needs
+last-field-requires : tie.Need-last-field-requires
+last-field-requires c κs = search needs
 
 same-length : tie.Need-same-length
 same-length c = search needs
@@ -28,19 +22,9 @@ same-length c = search needs
 returns : tie.Need-returns
 unfolding endLine
 returns c =
-    let word = c .before .before .before .before .before .before .before .before .before .before .before .word .ensures in
-    let count = c .before .before .before .before .before .before .before .field .ensures in
-    let newline = c .before .before .word2 .ensures in
-    (wrote-then (word .0) (wrote-then (count .0) (newline .0)), omega (arith, word .1, count .1, newline .1))
+    let word = c .before .before .before .before .before .before .word .ensures in
+    let count = c .before .before .last-field .ensures in
+    (wrote-then (word .0) (count .0), omega (arith, word .1, count .1))
 
 pub end-line-spec : {M : Type 1} → statement M
-end-line-spec =
-    tie.close
-    (tie.spec
-    slice-aggregate-word
-    word-requires
-    field-requires
-    slice-aggregate-word-2
-    word-requires-2
-    same-length
-    returns)
+end-line-spec = tie.close (tie.spec slice-aggregate-word word-requires last-field-requires same-length returns)

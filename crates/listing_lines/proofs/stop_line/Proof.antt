@@ -1,4 +1,4 @@
--- `listing_lines::stop_line` meets its contract: the word, the number, the place and the newline are written one behind the other.
+-- `listing_lines::stop_line` meets its contract: the word, the number and the place are written one behind the other.
 -- Assumes nothing.
 use native.Mathlib.Omega.{arith}
 use borrow.Author.Needs.{needs}
@@ -16,14 +16,8 @@ word-requires c κs = search needs
 field-requires : tie.Need-field-requires
 field-requires c κs = search needs
 
-field-requires-2 : tie.Need-field-requires-2
-field-requires-2 c κs = search needs
-
-slice-aggregate-word-2 : tie.Need-slice-aggregate-word-2
-slice-aggregate-word-2 c = search needs
-
-word-requires-2 : tie.Need-word-requires-2
-word-requires-2 c κs = search needs
+last-field-requires : tie.Need-last-field-requires
+last-field-requires c κs = search needs
 
 same-length : tie.Need-same-length
 same-length c = search needs
@@ -31,21 +25,10 @@ same-length c = search needs
 returns : tie.Need-returns
 unfolding stopLine
 returns c =
-    let word = c .before .before .before .before .before .before .before .before .before .before .before .before .before .before .before .word .ensures in
-    let number = c .before .before .before .before .before .before .before .before .before .before .before .field .ensures in
-    let place = c .before .before .before .before .before .before .before .field2 .ensures in
-    let newline = c .before .before .word2 .ensures in
-    (wrote-then (word .0) (wrote-then (number .0) (wrote-then (place .0) (newline .0))), omega (arith, word .1, number .1, place .1, newline .1))
+    let word = c .before .before .before .before .before .before .before .before .before .before .word .ensures in
+    let number = c .before .before .before .before .before .before .field .ensures in
+    let place = c .before .before .last-field .ensures in
+    (wrote-then (word .0) (wrote-then (number .0) (place .0)), omega (arith, word .1, number .1, place .1))
 
 pub stop-line-spec : {M : Type 1} → statement M
-stop-line-spec =
-    tie.close
-    (tie.spec
-    slice-aggregate-word
-    word-requires
-    field-requires
-    field-requires-2
-    slice-aggregate-word-2
-    word-requires-2
-    same-length
-    returns)
+stop-line-spec = tie.close (tie.spec slice-aggregate-word word-requires field-requires last-field-requires same-length returns)

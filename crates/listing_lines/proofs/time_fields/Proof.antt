@@ -32,17 +32,11 @@ enum-known-time c = search needs
 signed-field-requires : tie.Need-signed-field-requires
 signed-field-requires c κs = search needs
 
-cast-field : tie.Need-cast-field
-cast-field c = search needs
+cast-last-field : tie.Need-cast-last-field
+cast-last-field c = search needs
 
-field-requires : tie.Need-field-requires
-field-requires c κs = search needs
-
-slice-aggregate-word-2 : tie.Need-slice-aggregate-word-2
-slice-aggregate-word-2 c = search needs
-
-word-requires-2 : tie.Need-word-requires-2
-word-requires-2 c κs = search needs
+last-field-requires : tie.Need-last-field-requires
+last-field-requires c κs = search needs
 
 same-length : tie.Need-same-length
 same-length c = search needs
@@ -62,18 +56,17 @@ same-length-2 c = search needs
 
 returns-2 : tie.Need-returns-2
 returns-2 c =
-    let arm = c .before .before .before .before .before .before .before .before .before .before .before .before .before in
+    let arm = c .before .before .before .before .before .before .before .before in
     let a = arm .before .before .before .before .args in
-    let w = c .before .before .word2 in
-    let f = c .before .before .before .before .before .before .before .field .ensures in
-    let s = c .before .before .before .before .before .before .before .before .before .before .before .signed-field in
+    let f = c .before .before .last-field in
+    let s = c .before .before .before .before .before .before .signed-field in
     let v = arm .before .time .given in
     let same = toZ-ofZ {w = w64} {z = v .0 .0} (record { sfits = arm .known-told .given .0 .1 }) in
     let seconds = subst (λ (z : ℤ). Wrote (now (a .output)) (a .at) (tab ∷ signedDecimal z) (s .last .0) (s .result)) same (s .ensures .0) in (
-      subst (λ (t : TimeAnswer). Wrote (now (a .output)) (a .at) (fieldsOf (timeFields (timeSays t))) (w .last .0) (w .result))
+      subst (λ (t : TimeAnswer). Wrote (now (a .output)) (a .at) (fieldsOf (timeFields (timeSays t))) (f .last .0) (f .result))
           (sym (v .1))
-          (wrote-then seconds (wrote-then (f .0) (w .ensures .0))),
-      omega (arith, w .ensures .1, f .1, s .ensures .1),
+          (wrote-then seconds (f .ensures .0)),
+      omega (arith, f .ensures .1, s .ensures .1),
     )
 
 pub time-fields-spec : {M : Type 1} → statement M
@@ -85,10 +78,8 @@ time-fields-spec =
     word-requires
     enum-known-time
     signed-field-requires
-    cast-field
-    field-requires
-    slice-aggregate-word-2
-    word-requires-2
+    cast-last-field
+    last-field-requires
     same-length
     returns
     same-length-2
