@@ -6,7 +6,7 @@ use mathlib.Core.List.{List}
 use lib.ListN.{length, getD}
 use borrow.Author.Tests.{lt-ltb, le-ltb, le-leb, lt-leb, eq-eqb, ne-eqb}
 use Rattle.refusals.specs.Refusals.{refused, given, shortHeader, version}
-use Rattle.radiotap_rules.specs.Reading.{headerLength, fixedLength, lengthIn, fixedHeader}
+use Rattle.radiotap_rules.specs.Reading.{radiotapLength, fixedLength, lengthIn, fixedHeader}
 
 module _ (s : List ℕ) where
   pub short : length s < fixedLength → fixedHeader s ≡ refused shortHeader (length s)
@@ -19,12 +19,12 @@ module _ (s : List ℕ) where
     other-version v = rw (le-ltb (length s) fixedLength long, ne-eqb (getD s 0 0) 0 v)
 
     module _ (v : getD s 0 0 ≡ 0) where
-      pub below : lengthIn s < fixedLength → fixedHeader s ≡ refused headerLength 2
+      pub below : lengthIn s < fixedLength → fixedHeader s ≡ refused radiotapLength 2
       unfolding fixedHeader
       below h = rw (le-ltb (length s) fixedLength long, eq-eqb (getD s 0 0) 0 v, lt-leb fixedLength (lengthIn s) h)
 
       module _ (whole : fixedLength ≤ lengthIn s) where
-        pub above : length s < lengthIn s → fixedHeader s ≡ refused headerLength 2
+        pub above : length s < lengthIn s → fixedHeader s ≡ refused radiotapLength 2
         unfolding fixedHeader
         above h =
             rw

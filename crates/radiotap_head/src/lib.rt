@@ -14,7 +14,7 @@ use radiotap_rules::Head;
 use refusals::Refusal;
 
 // The length is below 8 or above the input.
-pub const HEADER_LENGTH: u32 = 9;
+pub const RADIOTAP_LENGTH: u32 = 9;
 // A presence word runs past the length.
 pub const WORD_PAST: u32 = 10;
 // A ninth presence word is called for.
@@ -73,7 +73,7 @@ fn fixed(s: &[u8]) -> FixedAnswer
     let size = octets::le16(s, 2) as u32;
     if (size as usize) < FIXED_LENGTH || s.len() < size as usize {
         return FixedAnswer::Refused(Refusal {
-            number: HEADER_LENGTH,
+            number: RADIOTAP_LENGTH,
             place: 2,
         });
     }

@@ -10,8 +10,8 @@ use Rattle.octets.specs.Parts.{part}
 use Rattle.radiotap_rules.specs.Rules.{Row, Rules, rowOf, knows, editionTaken, served}
 
 -- 9: the length is below 8 or above the input
-abbrev pub headerLength : ℕ
-headerLength = 9
+abbrev pub radiotapLength : ℕ
+radiotapLength = 9
 
 -- 10: a presence word runs past the length
 abbrev pub wordPast : ℕ
@@ -43,7 +43,7 @@ fixedHeader s =
     cond (ltb (length s) fixedLength)
     (refused shortHeader (length s))
     (cond (eqb (getD s 0 0) 0)
-    (cond (leb fixedLength (lengthIn s) && leb (lengthIn s) (length s)) (given (lengthIn s)) (refused headerLength 2))
+    (cond (leb fixedLength (lengthIn s) && leb (lengthIn s) (length s)) (given (lengthIn s)) (refused radiotapLength 2))
     (refused version 0))
 
 -- whether a bit of a word is set
