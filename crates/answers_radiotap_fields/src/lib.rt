@@ -45,7 +45,7 @@ fn moved_once(s: &[u8], edition: u32) -> Step
     radiotap_reader::next(radiotap_reader::moved(radiotap_reader::new(s, edition)))
 }
 
-// Kind, number, place, word, bit and the value's octet; kind 5 is a field that is no dBm field.
+// Kind, number, place, word, bit and value; kind 5 is a field that is no dBm field.
 fn dbm(answer: DbmAnswer) {
     match answer {
         DbmAnswer::Refused(refusal) => {
@@ -61,7 +61,8 @@ fn dbm(answer: DbmAnswer) {
             question_lines::numbers(&[5, 0, 0, 0, 0, 0]);
         }
         DbmAnswer::Dbm(value) => {
-            question_lines::numbers(&[1, 0, 0, 0, 0, twos_complement::unsigned8(value) as u64]);
+            let power = twos_complement::unsigned64(boundary_le::wide(value));
+            question_lines::numbers(&[1, 0, 0, 0, 0, power]);
         }
     }
 }

@@ -82,7 +82,7 @@ fn read_row(values: Values, told: Told) -> Le
 }
 
 // A signed value in 64 bits.
-fn wide(z: i8) -> i64
+pub fn wide(z: i8) -> i64
     ensures { λ r. ⌜ r ≡ z ⌝ }
 {
     z as i64

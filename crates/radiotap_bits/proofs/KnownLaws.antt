@@ -10,7 +10,7 @@ use lib.ListN.{getD}
 use lib.Dec.{leb, eqb}
 use lib.Pow.{pow-mono}
 use borrow.Author.Tests.{le-leb, lt-leb}
-use Rattle.radiotap_rules.specs.Rules.{Row, unknown, rowOf, knows}
+use Rattle.radiotap_rules.specs.Rules.{Row, unknown, knows}
 use Rattle.radiotap_rules.specs.Table.{ourRules}
 use Rattle.radiotap_rules.specs.Reading.{bitSet, wordBits}
 use Rattle.radiotap_rows.specs.Rows.{numbersOf}

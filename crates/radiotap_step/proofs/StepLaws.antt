@@ -1,13 +1,13 @@
 -- Where a step's search for the next field stands, and how each finding carries it on or ends it.
 -- Assumes nothing.
-use Prim.Native.Nat.{ℕ, zero, suc, _+_, _-_, _*_, _/_, _%_, _≤_, _<_}
-use mathlib.Core.Path.{_≡_, refl, sym, ap, _∙_, subst}
+use Prim.Native.Nat.{ℕ, zero, suc, _+_, _-_, _*_, _≤_, _<_}
+use mathlib.Core.Path.{_≡_, refl, ap, _∙_, subst}
 use mathlib.Core.Bool.{Bool, true, false, cond, _||_}
-use mathlib.Core.List.{List, [], _∷_}
+use mathlib.Core.List.{List, []}
 use native.Mathlib.Omega.{arith}
 use mathlib.Core.Logic.{_⊎_, inl, inr}
-use lib.ListN.{length, getD}
-use lib.Dec.{leb, ltb, eqb}
+use lib.ListN.{getD}
+use lib.Dec.{eqb}
 use native.Mathlib.Decide.{decLe}
 use borrow.Author.Tests.{le-leb, lt-leb, eq-eqb, ne-eqb, eqb-true}
 use Rattle.octets.specs.Numbers.{little, numberAt}
@@ -15,7 +15,7 @@ use Rattle.octets.specs.Parts.{part}
 use Rattle.radiotap_rules.specs.declared.Cursor.{Cursor}
 use Rattle.radiotap_rules.specs.Rules.{Rules, rowOf, knows}
 use Rattle.radiotap_rules.specs.Reading.{fieldPast, wordBits, wordAt, bitAt, bitSet, present, nothing, unknownHere, field, meaning, aligned, ended}
-use Rattle.radiotap_rules.specs.Steps.{wordsFor, wordsOf, Met, refusedStep, over, met, metMeaning, metFrom, stepOf}
+use Rattle.radiotap_rules.specs.Steps.{wordsFor, wordsOf, refusedStep, over, met, metMeaning, metFrom, stepOf}
 use Rattle.radiotap_rules.specs.Answers.{unknownField, lies, layOf}
 use Rattle.radiotap_bits.specs.Bits.{NextSet}
 use Rattle.radiotap_step.specs.Met.{metLaid}

@@ -1,6 +1,6 @@
 -- `btsnoop_earlier::part_of` meets its contract: each arm is the case of the capture.
 -- Assumes nothing.
-use mathlib.Core.Path.{_≡_, sym, ap, _∙_}
+use mathlib.Core.Path.{sym, ap, _∙_}
 use mathlib.Core.Bool.{cond}
 use lib.Dec.{eqb}
 use denote.Ref.{now}

@@ -1,6 +1,5 @@
 -- `radiotap_bits::knows` meets its contract: by the two tests of the first edition.
 -- Assumes nothing.
-use native.Mathlib.Omega.{arith}
 use Rattle.radiotap_bits.proofs.KnownLaws.{one-none, one-later, one-known}
 use Rattle.radiotap_bits.proofs.knows.Statement.{statement}
 use Rattle.radiotap_bits.proofs.knows.Tie as tie

@@ -58,10 +58,10 @@ fn field_values(field: &Field) -> [u64; 4] {
     ]
 }
 
-/// word, bit, the value's octet
+/// word, bit, value
 pub fn dbm(answer: Result<Dbm, Refusal>) -> [u64; 6] {
     match answer {
-        Ok(Dbm::Value(value)) => row(VALUES, &[0, 0, (value as u8).into()]),
+        Ok(Dbm::Value(value)) => row(VALUES, &[0, 0, value as u64]),
         Ok(Dbm::OtherField) => row(NO_DBM, &[]),
         Ok(Dbm::Past(Ending::End)) => row(END, &[]),
         Ok(Dbm::Past(Ending::Stop { word, bit })) => row(STOPPED, &[word as u64, bit.into()]),
