@@ -47,7 +47,7 @@ returns c =
     let lines = c .before .before .lines in
     let w = lines .ensures .0 in
     let low : lines .result < highestPlace = omega (arith, lines .ensures .1, start .good .0 .1) in (
-      ap given (w .behind low) ∙ sym (writing-room (now (a .output)) (a .place) (now (a .input)) room),
+      ap given (w .behind .2 low) ∙ sym (writing-room (now (a .output)) (a .place) (now (a .input)) room),
       w .holds low inside ∙ sym (written-room (now (a .output)) (a .place) (now (a .input)) room),
     )
 
