@@ -98,13 +98,15 @@ fn judge(s: &[u8], place: usize) -> Step
             place: place + 4,
         });
     }
-    if left - RECORD_LENGTH < included {
+    // The packet's place has two uses, so the compiler keeps it, and the step to the next record waits for one sum alone.
+    let packet = place + RECORD_LENGTH;
+    if s.len() - packet < included {
         return Step::Refused(Refusal {
             number: refusals::SHORT_PACKET,
             place,
         });
     }
-    Step::Next(place + RECORD_LENGTH + included)
+    Step::Next(packet + included)
 }
 
 // Checks a whole file: accepted exactly when its header is valid and whole records fill the rest.

@@ -60,8 +60,8 @@ be32-requires-2 c κs = search needs
 cast-if3 : tie.Need-cast-if3
 cast-if3 c = search needs
 
-add-t9 : tie.Need-add-t9
-add-t9 c = search needs
+add-t10 : tie.Need-add-t10
+add-t10 c = search needs
 
 returns-3 : tie.Need-returns-3
 returns-3 c =
@@ -70,6 +70,12 @@ returns-3 c =
     let lengths = lengths-known (c .before) in
     let above : n .original < n .included = omega (arith, lengths .0, lengths .1) in
     judged (c .before .before .before) ∙ judged-above (length (now (a .s)) - a .place) (a .place) n above
+
+add-packet : tie.Need-add-packet
+add-packet c = search needs
+
+sub-if4 : tie.Need-sub-if4
+sub-if4 c = search needs
 
 returns-4 : tie.Need-returns-4
 returns-4 c =
@@ -80,11 +86,8 @@ returns-4 c =
     let past : length (now (a .s)) - a .place < 24 + n .included = omega (arith, lengths .0, lengths .1) in
     judged (c .before .before .before .before) ∙ judged-past (length (now (a .s)) - a .place) (a .place) n fits past
 
-add-t5 : tie.Need-add-t5
-add-t5 c = search needs
-
-add-t12 : tie.Need-add-t12
-add-t12 c = search needs
+add-t6 : tie.Need-add-t6
+add-t6 c = search needs
 
 returns-5 : tie.Need-returns-5
 returns-5 c =
@@ -109,9 +112,10 @@ judge-spec =
     cast-included
     be32-requires-2
     cast-if3
-    add-t9
+    add-t10
     returns-3
+    add-packet
+    sub-if4
     returns-4
-    add-t5
-    add-t12
+    add-t6
     returns-5)
