@@ -61,7 +61,7 @@ fn dbm(answer: DbmAnswer) {
             question_lines::numbers(&[5, 0, 0, 0, 0, 0]);
         }
         DbmAnswer::Dbm(value) => {
-            let power = twos_complement::unsigned64(boundary_le::wide(value));
+            let power = twos_complement::unsigned64(twos_complement::wide(value));
             question_lines::numbers(&[1, 0, 0, 0, 0, power]);
         }
     }

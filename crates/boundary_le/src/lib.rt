@@ -68,8 +68,8 @@ fn read_row(values: Values, told: Told) -> Le
         number: 0,
         place: 0,
         channel: values.channel as u64,
-        signal: wide(values.signal),
-        noise: wide(values.noise),
+        signal: twos_complement::wide(values.signal),
+        noise: twos_complement::wide(values.noise),
         offences: values.offences as u64,
         reference: values.reference as u64,
         flags: values.flags as u64,
@@ -79,13 +79,6 @@ fn read_row(values: Values, told: Told) -> Le
         dependent: dependent_number(dependent),
         packet: HEADER_LENGTH as u64,
     }
-}
-
-// A signed value in 64 bits.
-pub fn wide(z: i8) -> i64
-    ensures { λ r. ⌜ r ≡ z ⌝ }
-{
-    z as i64
 }
 
 // Bit 0 the signal, 1 the noise, 2 the reference address, 3 the offences: set where the value is known.

@@ -1,55 +1,15 @@
 -- Laws of octets written into an output: one write, and a write behind another.
 -- Assumes nothing.
-use Prim.Native.Nat.{ℕ, _+_, _-_, _≤_, _<_}
+use Prim.Native.Nat.{ℕ, _+_, _≤_, _<_}
 use native.Mathlib.Omega.{arith}
-use native.Mathlib.Nat.{lt-of-not-le}
-use native.Mathlib.Decide.{decLe}
 use mathlib.Core.Path.{_≡_, ap, subst, _∙_}
 use mathlib.Core.Logic.{_⊎_, inl, inr}
 use mathlib.Core.List.{List, _∷_, _++_, append-assoc}
-use lib.ListN.{length, take, drop, getD, length-append, List·getD-append}
-use lib.Seq.{length-take-le, getD-append-add, getD-take, getD-drop}
+use lib.ListN.{length, getD, length-append}
 use Rattle.octets.specs.Parts.{put, splice}
-use Rattle.octets.proofs.PartLaws.{put-room, put-none, length-splice, splice-splice}
+use Rattle.octets.proofs.PartLaws.{put-room, length-put, put-elsewhere, splice-splice}
 use Rattle.listing_rules.specs.Lines.{tab}
 use Rattle.listing_lines.specs.Wrote.{Behind, Wrote}
-
--- an output keeps its length
-length-put : (out : List ℕ) (at : ℕ) (xs : List ℕ) → length (put out at xs) ≡ length out
-length-put out at xs = go (decLe (at + length xs) (length out))
-  where
-    go : Dec (at + length xs ≤ length out) → length (put out at xs) ≡ length out
-    go (yes h) = ap length (put-room out at xs h) ∙ length-splice out at xs h
-    go (no h) = ap length (put-none out at xs (lt-of-not-le h))
-
--- octets put into an output leave the others
-splice-elsewhere : (out : List ℕ) (at : ℕ) (xs : List ℕ) (i : ℕ) → at + length xs ≤ length out → (i < at) ⊎ (at + length xs ≤ i)
-    → getD (splice out at xs) i 0 ≡ getD out i 0
-unfolding splice
-splice-elsewhere out at xs i room (inl low) =
-    let front : length (take at out) ≡ at = length-take-le at out (omega arith) in
-    let both : length (take at out ++ xs) ≡ length (take at out) + length xs = length-append (take at out) xs in
-    List·getD-append (take at out ++ xs) (drop (at + length xs) out) 0 i (omega arith)
-    ∙ List·getD-append (take at out) xs 0 i (omega arith)
-    ∙ getD-take at out i 0 low
-splice-elsewhere out at xs i room (inr high) =
-    let front : length (take at out) ≡ at = length-take-le at out (omega arith) in
-    let both : length (take at out ++ xs) ≡ length (take at out) + length xs = length-append (take at out) xs in
-    let back : List ℕ = drop (at + length xs) out in
-    let k : ℕ = i - (at + length xs) in
-    let here : i ≡ length (take at out ++ xs) + k = omega arith in
-    let there : at + length xs + k ≡ i = omega arith in
-    ap (λ (j : ℕ). getD (take at out ++ xs ++ back) j 0) here
-    ∙ getD-append-add (take at out ++ xs) back k 0
-    ∙ getD-drop (at + length xs) out k 0
-    ∙ ap (λ (j : ℕ). getD out j 0) there
-
-put-elsewhere : (out : List ℕ) (at : ℕ) (xs : List ℕ) (i : ℕ) → (i < at) ⊎ (at + length xs ≤ i) → getD (put out at xs) i 0 ≡ getD out i 0
-put-elsewhere out at xs i other = go (decLe (at + length xs) (length out))
-  where
-    go : Dec (at + length xs ≤ length out) → getD (put out at xs) i 0 ≡ getD out i 0
-    go (yes h) = ap (λ (l : List ℕ). getD l i 0) (put-room out at xs h) ∙ splice-elsewhere out at xs i h other
-    go (no h) = ap (λ (l : List ℕ). getD l i 0) (put-none out at xs (lt-of-not-le h))
 
 -- an output that is what a put leaves, and the place behind it
 pub wrote-is : {before after : List ℕ} {at next : ℕ} {xs : List ℕ}

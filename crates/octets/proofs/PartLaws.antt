@@ -3,11 +3,13 @@
 use Prim.Native.Nat.{ℕ, zero, suc, _+_, _-_, _≤_, _<_}
 use mathlib.Core.Path.{_≡_, refl, sym, ap, _∙_}
 use mathlib.Core.Bool.{Bool, cond}
+use mathlib.Core.Logic.{_⊎_, inl, inr}
 use mathlib.Core.List.{List, [], _++_, append-assoc}
 use native.Mathlib.Omega.{arith}
-use native.Mathlib.Nat.{add-suc}
-use lib.ListN.{length, take, drop, length-append, length-drop, drop-of-length-le}
-use lib.Seq.{drop-cons, take-all, take-nil, take-at, drop-at, take-length, drop-append-add, length-take-le, drop-drop, paste, length-paste}
+use native.Mathlib.Nat.{add-suc, lt-of-not-le}
+use native.Mathlib.Decide.{decLe}
+use lib.ListN.{length, take, drop, getD, List·getD-append, length-append, length-drop, drop-of-length-le}
+use lib.Seq.{drop-cons, take-all, take-nil, take-at, drop-at, take-length, drop-append-add, length-take-le, drop-drop, getD-append-add, getD-take, getD-drop, paste, length-paste}
 use borrow.Author.Tests.{le-leb, lt-leb}
 use Rattle.octets.specs.Numbers.{octetsAfter}
 use Rattle.octets.specs.Parts.{part, splice, put}
@@ -47,6 +49,44 @@ splice-paste out at xs = ap (λ (ys : List ℕ). take at out ++ ys ++ drop (at +
 -- an output keeps its length
 pub length-splice : (out : List ℕ) (at : ℕ) (xs : List ℕ) → at + length xs ≤ length out → length (splice out at xs) ≡ length out
 length-splice out at xs h = ap length (splice-paste out at xs) ∙ length-paste out at xs (length xs) h (omega arith)
+
+-- an output keeps its length, put into or not
+pub length-put : (out : List ℕ) (at : ℕ) (xs : List ℕ) → length (put out at xs) ≡ length out
+length-put out at xs = go (decLe (at + length xs) (length out))
+  where
+    go : Dec (at + length xs ≤ length out) → length (put out at xs) ≡ length out
+    go (yes h) = ap length (put-room out at xs h) ∙ length-splice out at xs h
+    go (no h) = ap length (put-none out at xs (lt-of-not-le h))
+
+-- octets written into an output leave the others
+splice-elsewhere : (out : List ℕ) (at : ℕ) (xs : List ℕ) (i : ℕ) → at + length xs ≤ length out → (i < at) ⊎ (at + length xs ≤ i)
+    → getD (splice out at xs) i 0 ≡ getD out i 0
+unfolding splice
+splice-elsewhere out at xs i room (inl low) =
+    let front : length (take at out) ≡ at = length-take-le at out (omega arith) in
+    let both : length (take at out ++ xs) ≡ length (take at out) + length xs = length-append (take at out) xs in
+    List·getD-append (take at out ++ xs) (drop (at + length xs) out) 0 i (omega arith)
+    ∙ List·getD-append (take at out) xs 0 i (omega arith)
+    ∙ getD-take at out i 0 low
+splice-elsewhere out at xs i room (inr high) =
+    let front : length (take at out) ≡ at = length-take-le at out (omega arith) in
+    let both : length (take at out ++ xs) ≡ length (take at out) + length xs = length-append (take at out) xs in
+    let back : List ℕ = drop (at + length xs) out in
+    let k : ℕ = i - (at + length xs) in
+    let here : i ≡ length (take at out ++ xs) + k = omega arith in
+    let there : at + length xs + k ≡ i = omega arith in
+    ap (λ (j : ℕ). getD (take at out ++ xs ++ back) j 0) here
+    ∙ getD-append-add (take at out ++ xs) back k 0
+    ∙ getD-drop (at + length xs) out k 0
+    ∙ ap (λ (j : ℕ). getD out j 0) there
+
+-- so do octets put into it, with room or without
+pub put-elsewhere : (out : List ℕ) (at : ℕ) (xs : List ℕ) (i : ℕ) → (i < at) ⊎ (at + length xs ≤ i) → getD (put out at xs) i 0 ≡ getD out i 0
+put-elsewhere out at xs i other = go (decLe (at + length xs) (length out))
+  where
+    go : Dec (at + length xs ≤ length out) → getD (put out at xs) i 0 ≡ getD out i 0
+    go (yes h) = ap (λ (l : List ℕ). getD l i 0) (put-room out at xs h) ∙ splice-elsewhere out at xs i h other
+    go (no h) = ap (λ (l : List ℕ). getD l i 0) (put-none out at xs (lt-of-not-le h))
 
 -- what stands before the end of the written octets, and how long it is
 head-long : (out : List ℕ) (at : ℕ) (xs : List ℕ) → at ≤ length out → length (take at out ++ xs) ≡ at + length xs

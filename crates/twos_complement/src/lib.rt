@@ -1,4 +1,4 @@
-// Two's complement at 8 and 64 bits: the signed number that bits stand for, and back.
+// Two's complement at 8 and 64 bits: the signed number that bits stand for, and back; and a number of 8 bits in 64.
 ghost use mathlib.Core.Path.{_≡_};
 ghost use Rattle.octets.specs.Signed.{signed, unsigned};
 
@@ -36,4 +36,11 @@ pub fn unsigned64(z: i64) -> u64
     } else {
         z as u64
     }
+}
+
+// A signed number of 8 bits, in 64.
+pub fn wide(z: i8) -> i64
+    ensures { λ r. ⌜ r ≡ z ⌝ }
+{
+    z as i64
 }

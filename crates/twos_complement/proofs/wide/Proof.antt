@@ -1,4 +1,4 @@
--- `boundary_le::wide` meets its contract: a number that fits 8 bits fits 64, and is itself there.
+-- `twos_complement::wide` meets its contract: a number that fits 8 bits fits 64, and is itself there.
 -- Assumes nothing.
 use mathlib.Core.Path.{_≡_}
 use lib.Dec.{lit≤}
@@ -6,8 +6,8 @@ use native.Mathlib.Nat.{lt-of-lt-of-le}
 use mir.Syntax.{w8, w64}
 use mir.Val.{SFits, toZ, ofZ}
 use mir.Facts.{toZ-ofZ}
-use Rattle.boundary_le.proofs.wide.Statement.{statement}
-use Rattle.boundary_le.proofs.wide.Tie as tie
+use Rattle.twos_complement.proofs.wide.Statement.{statement}
+use Rattle.twos_complement.proofs.wide.Tie as tie
 
 itself : (c : tie.Start) → toZ w8 (ofZ w8 (c .args .z)) ≡ c .args .z
 itself c = toZ-ofZ {w = w8} {z = c .args .z} (c .fits .z)
