@@ -2,6 +2,7 @@
 -- Assumes nothing.
 use Prim.Native.Nat.{ℕ, zero, suc, _+_, _-_, _≤_}
 use mathlib.Core.Path.{_≡_, refl, sym, ap, _∙_, subst, subst₂}
+use mathlib.Core.Logic.{_↔_}
 use mathlib.Core.List.{List}
 use native.Mathlib.Omega.{arith}
 use native.Mathlib.Nat.{lt-of-not-le}
@@ -11,6 +12,7 @@ use Rattle.refusals.specs.Refusals.{Answer, refused, given}
 use Rattle.tiling.specs.Tiling.{Next, Placed, Ending, ended, more, broken, items, ending, used, onward, walk, Tiles, none, one}
 use Rattle.tiling.specs.Claims.{Forward, Reached}
 use Rattle.tiling.proofs.Walks.{survey-inside, count-is-passed, surveys-add, tiles-walk, never-more as never-more-walk}
+use Rattle.record_rules.proofs.Filling.{filled-walk as over-filled, walk-filled as filled-over}
 use Rattle.btsnoop_rules.specs.declared.Numbers.{Numbers}
 use Rattle.btsnoop_rules.specs.Header.{headerLength, headerAt}
 use Rattle.btsnoop_rules.specs.Record.{recordLength, numbersAt, Found, end, whole, recordJudged, recordAt, packetIn, packetAt, Record, stepOn, recordStep, WholeAt}
@@ -104,54 +106,26 @@ forward s =
     is-end p (last h) e = h
     is-end p (lying l a f) e = let z : _≡_ {A = ℕ} 0 1 = cc in absurd (omega arith)
 
--- items that lie end to end do so for any other meaning of lying whole that follows
-tiles-map : {A : Type 0} {L M : ℕ → A → ℕ → Type 0} → ((p : ℕ) (a : A) (q : ℕ) → L p a q → M p a q)
-    → {p q : ℕ} {xs : List (Placed A)} → Tiles L p xs q → Tiles M p xs q
-tiles-map f none = none
-tiles-map f (one {p} {q} {r} {a} h t) = one (f p a q h) (tiles-map f t)
-
--- a walk that ends does so at the input's end
-module _ {A : Type 0} (step : ℕ → Answer (Next A)) (q : ℕ) where
-  walk-ended : (n p : ℕ) → ending (walk step n p) ≡ ended q → step q ≡ given Next.end
-  walk-ended zero p = go (step p) refl
-    where
-      go : (x : Answer (Next A)) → step p ≡ x → ending (used p x) ≡ ended q → step q ≡ given Next.end
-      go (refused k r) e h = let z : _≡_ {A = ℕ} 0 1 = cc in absurd (omega arith)
-      go (given Next.end) e h = cc
-      go (given (Next.whole a r)) e h = let z : _≡_ {A = ℕ} 0 1 = cc in absurd (omega arith)
-  walk-ended (suc n) p = go (walk-ended n) (step p) refl
-    where
-      go : ((r : ℕ) → ending (walk step n r) ≡ ended q → step q ≡ given Next.end)
-          → (x : Answer (Next A)) → step p ≡ x → ending (onward p (walk step n) x) ≡ ended q → step q ≡ given Next.end
-      go rest (refused k r) e h = let z : _≡_ {A = ℕ} 0 1 = cc in absurd (omega arith)
-      go rest (given Next.end) e h = cc
-      go rest (given (Next.whole a r)) e h = rest r h
-
 module _ (s : List ℕ) where
   -- no record is empty
   pub tiles-long : {p q : ℕ} {xs : List (Placed Record)} → Tiles (WholeAt s) p xs q → p + length xs ≤ q
   tiles-long none = omega arith
   tiles-long (one w t) = let l = tiles-long t in omega arith
 
+  exact : (p : ℕ) (r : Record) (q : ℕ) → WholeAt s p r q ↔ (recordStep s p ≡ given (Next.whole r q))
+  exact p r q = (whole-exactly s p r q .found, whole-exactly s p r q .lies)
+
   -- the walk over a file passes the records that fill it, and then ends
   filled-walk : {code : ℕ} {xs : List (Placed Record)} → Filled s code xs
       → (items (fileWalk s) ≡ xs) × (ending (fileWalk s) ≡ ended (length s))
   unfolding fileWalk
   filled-walk {code} {xs} f =
-      let l = tiles-long (f .records) in
-      tiles-walk headerLength (length s) (recordStep s) (forward s) headerLength xs (length s) (omega arith)
-      (tiles-map (λ p r q. whole-exactly s p r q .found) (f .records)) (omega arith)
+      over-filled headerLength (length s) (recordStep s) (WholeAt s) (forward s) exact (header-long s code (f .header)) xs (f .records)
 
   -- and a walk that ends passed records that fill the input
   walk-filled : (q : ℕ) → ending (fileWalk s) ≡ ended q → Tiles (WholeAt s) headerLength (items (fileWalk s)) (length s)
   unfolding fileWalk
-  walk-filled q e =
-      let r : Reached (recordStep s) headerLength (fileWalk s) =
-      count-is-passed headerLength (length s) (recordStep s) (length s) headerLength in
-      let here : q ≡ r .place = rw e at (r .ends) in
-      let last : q ≡ length s = forward s .is-end (walk-ended (recordStep s) q (length s) headerLength e) in
-      subst (Tiles (WholeAt s) headerLength (items (fileWalk s))) (sym here ∙ last)
-      (tiles-map (λ p a q. whole-exactly s p a q .lies) (r .tiles))
+  walk-filled = filled-over headerLength (length s) (recordStep s) (WholeAt s) (forward s) exact
 
   accepted-file : AcceptedFile s
   unfolding fileAt

@@ -10,25 +10,55 @@ use lib.Seq.{take-at, drop-at, drop-drop, drop-length}
 use lib.Dec.{leb, eqb, lit<}
 use borrow.Author.Tests.{le-leb, leb-true, eqb-true}
 use Rattle.refusals.specs.Refusals.{Answer, refused, given}
+use Rattle.refusals.proofs.Orders.{chosen}
 use Rattle.octets.specs.Numbers.{big, octetsOf, octetsAt, numberAt, Octets}
 use Rattle.octets.specs.Signed.{signed, unsigned}
 use Rattle.octets.specs.Parts.{part}
 use Rattle.octets.proofs.Laws.{octets-take, octets-drop}
 use Rattle.octets.proofs.PartLaws.{length-part}
 use Rattle.octets.proofs.Signs.{twos-complement}
-use Rattle.tiling.specs.Tiling.{Placed, Tiles, none, one}
+use Rattle.octets.proofs.Fields.{length-octetsOf, octets-front, number-back, number-read}
+use Rattle.tiling.specs.Tiling.{Placed}
+use Rattle.record_rules.specs.Outputs.{valuesOf, lengthOf, joined, splicing}
+use Rattle.record_rules.proofs.Splices.{file-spliced}
+use Rattle.record_rules.proofs.Joining.{length-joined, joined-read, joined-back}
 use Rattle.btsnoop_rules.specs.declared.Numbers.{Numbers}
 use Rattle.btsnoop_rules.specs.Header.{headerLength, identificationOctets, versionNumber, served, sameOctets, headerJudged, headerAt}
 use Rattle.btsnoop_rules.specs.Record.{recordLength, numbersAt, Record, WholeAt}
-use Rattle.btsnoop_rules.specs.Writing.{headerOctets, recordOctets}
-use Rattle.btsnoop_rules.specs.Claims.{Representable, AllRepresentable, placedFrom, valuesOf, recordsLength, WriteThenRead, RewriteAccepted}
-use Rattle.btsnoop_rules.proofs.HeaderLaws.{same→eq}
-use Rattle.btsnoop_rules.proofs.Fields.{past, octets-front, number-back, number-read}
-use Rattle.btsnoop_rules.proofs.Splices.{written, joined, length-written, length-joined, length-header, file-written}
+use Rattle.btsnoop_rules.specs.Writing.{headerOctets, headerWriting, headerWritten, recordOctets, recordWriting, recordWritten}
+use Rattle.btsnoop_rules.specs.Claims.{Representable, writeHeader, writeRecord, recordSize, WriteThenRead, RewriteAccepted}
+use Rattle.btsnoop_rules.proofs.HeaderLaws.{same→eq, header-long}
+
+-- the octets of a record, as they are written
+abbrev written : Record → List ℕ
+written r = recordOctets (r .numbers .original) (r .numbers .flags) (r .numbers .drops) (r .numbers .time) (r .packet)
+
+length-written : (r : Record) → length (written r) ≡ recordSize r
+unfolding recordOctets
+length-written r = simp (length-append, length-octetsOf) (omega arith)
+
+length-header : (code : ℕ) → length (headerOctets code) ≡ headerLength
+unfolding headerOctets
+length-header code = simp (length-append, length-octetsOf)
+
+-- given room, the writers splice their octets in
+record-spliced : (out : List ℕ) (at : ℕ) (r : Record) → Representable r → at + length (written r) ≤ length out
+    → writeRecord out at r ≡ splicing out at (written r)
+unfolding recordWriting recordWritten
+record-spliced out at r f room =
+    let long = length-written r in
+    let small = le-leb (length (r .packet)) (r .numbers .original) (f .notAbove) in
+    let fits = le-leb (at + (recordLength + length (r .packet))) (length out) (omega arith) in
+    rw (small, fits, long)
+
+header-spliced : (out : List ℕ) (at code : ℕ) → served code ≡ true → at + headerLength ≤ length out
+    → writeHeader out at code ≡ splicing out at (headerOctets code)
+unfolding headerWriting headerWritten
+header-spliced out at code d h = rw (d, le-leb (at + headerLength) (length out) h, length-header code)
 
 -- a record whose octets stand at a place lies whole there
 record-read : (s : List ℕ) (p : ℕ) (r : Record) (after : List ℕ) → headerLength ≤ p → Representable r
-    → drop p s ≡ written r ++ after → WholeAt s p r (p + recordLength + length (r .packet))
+    → drop p s ≡ written r ++ after → WholeAt s p r (p + recordSize r)
 unfolding recordOctets numbersAt part
 record-read s p r after l f e =
     let n : Numbers = r .numbers in
@@ -40,12 +70,12 @@ record-read s p r after l f e =
     let t3 : List ℕ = octetsOf big 4 (n .drops) ++ t4 in
     let t2 : List ℕ = octetsOf big 4 (n .flags) ++ t3 in
     let t1 : List ℕ = octetsOf big 4 (length (r .packet)) ++ t2 in
-    let f0 = number-read s p 4 (p + 4) refl (omega arith) (n .original) t1 (f .original) (e ∙ simp append-assoc) in
-    let f1 = number-read s (p + 4) 4 (p + 8) (omega arith) (omega arith) (length (r .packet)) t2 (omega arith) (f0 .1) in
-    let f2 = number-read s (p + 8) 4 (p + 12) (omega arith) (omega arith) (n .flags) t3 (f .flags) (f1 .1) in
-    let f3 = number-read s (p + 12) 4 (p + 16) (omega arith) (omega arith) (n .drops) t4 (f .drops) (f2 .1) in
+    let f0 = number-read s p 4 (p + 4) refl (omega arith) big (n .original) t1 (f .original) (e ∙ simp append-assoc) in
+    let f1 = number-read s (p + 4) 4 (p + 8) (omega arith) (omega arith) big (length (r .packet)) t2 (omega arith) (f0 .1) in
+    let f2 = number-read s (p + 8) 4 (p + 12) (omega arith) (omega arith) big (n .flags) t3 (f .flags) (f1 .1) in
+    let f3 = number-read s (p + 12) 4 (p + 16) (omega arith) (omega arith) big (n .drops) t4 (f .drops) (f2 .1) in
     let bits : unsigned 64 (n .time) < 2 ^ 64 = twos-complement 63 .fits (n .time) (f .time) in
-    let f4 = number-read s (p + 16) 8 (p + 24) (omega arith) (omega arith) (unsigned 64 (n .time)) t5 bits (f3 .1) in
+    let f4 = number-read s (p + 16) 8 (p + 24) (omega arith) (omega arith) big (unsigned 64 (n .time)) t5 bits (f3 .1) in
     let time : signed 64 (numberAt big 8 s (p + 16)) ≡ n .time =
     ap (signed 64) (f4 .0) ∙ twos-complement 63 .fromBits (n .time) (f .time) in
     record {
@@ -53,20 +83,20 @@ record-read s p r after l f e =
       numbers = rw (f0 .0, f1 .0, f2 .0, f3 .0, time, ← f .included);
       included = omega arith;
       packet = sym (ap (take (n .included)) (f4 .1) ∙ take-at (r .packet) after (n .included) (sym (f .included)));
-      next = rw (f .included);
+      next = omega (arith, f .included);
       inside = omega arith;
     }
 
 -- and the octets of a record that lies whole are those that are written for it, and it can be written
-record-back : (s : List ℕ) (p : ℕ) (r : Record) (q : ℕ) → Octets s → WholeAt s p r q
+record-back : (s : List ℕ) → Octets s → (p : ℕ) (r : Record) (q : ℕ) → WholeAt s p r q
     → (drop p s ≡ written r ++ drop q s) × Representable r
 unfolding recordOctets numbersAt part
-record-back s p r q o w =
-    let f0 = number-back s p 4 (p + 4) refl (omega arith) o in
-    let f1 = number-back s (p + 4) 4 (p + 8) (omega arith) (omega arith) o in
-    let f2 = number-back s (p + 8) 4 (p + 12) (omega arith) (omega arith) o in
-    let f3 = number-back s (p + 12) 4 (p + 16) (omega arith) (omega arith) o in
-    let f4 = number-back s (p + 16) 8 (p + 24) (omega arith) (omega arith) o in
+record-back s o p r q w =
+    let f0 = number-back s p 4 (p + 4) refl (omega arith) big o in
+    let f1 = number-back s (p + 4) 4 (p + 8) (omega arith) (omega arith) big o in
+    let f2 = number-back s (p + 8) 4 (p + 12) (omega arith) (omega arith) big o in
+    let f3 = number-back s (p + 12) 4 (p + 16) (omega arith) (omega arith) big o in
+    let f4 = number-back s (p + 16) 8 (p + 24) (omega arith) (omega arith) big o in
     let n : Numbers = r .numbers in
     let bits : ℕ = numberAt big 8 s (p + 16) in
     let size : length (r .packet) ≡ n .included =
@@ -86,26 +116,6 @@ record-back s p r q o w =
       },
     )
 
--- the same for records end to end
-joined-read : (s : List ℕ) (p : ℕ) (rs : List Record) → headerLength ≤ p → p ≤ length s → AllRepresentable rs
-    → drop p s ≡ joined rs → Tiles (WholeAt s) p (placedFrom p rs) (length s)
-joined-read s p [] l h f e =
-    let last : p ≡ length s = omega (arith, length-drop p s, ap length e) in
-    subst (Tiles (WholeAt s) p []) last none
-joined-read s p (r ∷ rs) l h f e =
-    let w = record-read s p r (joined rs) l (f .0) e in
-    let q : ℕ = p + recordLength + length (r .packet) in
-    let rest : drop q s ≡ joined rs = past s p q (written r) (joined rs) (rw (length-written r) (omega arith)) e in
-    one w (joined-read s q rs (omega arith) (w .inside) (f .1) rest)
-
-joined-back : (s : List ℕ) → Octets s → {p q : ℕ} {xs : List (Placed Record)} → Tiles (WholeAt s) p xs q
-    → (drop p s ≡ joined (valuesOf xs) ++ drop q s) × AllRepresentable (valuesOf xs)
-joined-back s o none = (refl, tt)
-joined-back s o (one {p} {q} {a = r} w t) =
-    let here = record-back s p r q o w in
-    let rest = joined-back s o t in
-    (here .0 ∙ rw (rest .0, append-assoc), (here .1, rest .1))
-
 second : (a : Bool) {b : Bool} → (a && b) ≡ true → b ≡ true
 second true e = e
 second false e = let z : _≡_ {A = ℕ} 0 1 = cc in absurd (omega arith)
@@ -116,16 +126,10 @@ unfolding headerAt headerJudged headerOctets
 header-read code after h =
     let s : List ℕ = headerOctets code ++ after in
     let size : headerLength ≤ length s = rw (length-append (headerOctets code) after, length-header code) (omega arith) in
-    let v = number-read s 8 4 12 refl (omega arith) versionNumber (octetsOf big 4 code ++ after) (lit< tt) (simp append-assoc) in
+    let v = number-read s 8 4 12 refl (omega arith) big versionNumber (octetsOf big 4 code ++ after) (lit< tt) (simp append-assoc) in
     let small : code ≤ 1004 = leb-true code 1004 (second (leb 1001 code) h) in
-    let c = number-read s 12 4 16 refl size code after (omega arith) (v .1) in
+    let c = number-read s 12 4 16 refl size big code after (omega arith) (v .1) in
     rw (le-leb headerLength (length s) size, v .0, c .0, h)
-
--- a test that chooses something given, and not a refusal, holds
-chosen : {A : Type 0} (t : Bool) (n q : ℕ) {x : Answer A} {a : A} → cond t x (refused n q) ≡ given a
-    → (t ≡ true) × (x ≡ given a)
-chosen true n q e = (refl, e)
-chosen false n q e = let z : _≡_ {A = ℕ} 0 1 = cc in absurd (omega arith)
 
 -- and an accepted header's octets are those that are written for it
 header-back : (s : List ℕ) (code : ℕ) → Octets s → headerAt s ≡ given code
@@ -138,8 +142,8 @@ header-back s code o e =
     let t3 = chosen (served (numberAt big 4 s 12)) _ _ (t2 .1) in
     let size : headerLength ≤ length s = leb-true headerLength (length s) (t0 .0) in
     let same : octetsAt s 0 8 ≡ identificationOctets = same→eq (octetsAt s 0 8) identificationOctets (t1 .0) in
-    let f1 = number-back s 8 4 12 refl (omega arith) o in
-    let f2 = number-back s 12 4 16 refl size o in
+    let f1 = number-back s 8 4 12 refl (omega arith) big o in
+    let f2 = number-back s 12 4 16 refl size big o in
     let number : numberAt big 4 s 12 ≡ code = cc in
     let tail : drop 8 s ≡ octetsOf big 4 versionNumber ++ octetsOf big 4 code ++ drop headerLength s =
     f1 .0 ∙ rw (f2 .0, append-assoc, eqb-true (numberAt big 4 s 8) versionNumber (t2 .0), number) in (
@@ -151,30 +155,38 @@ header-back s code o e =
 
 -- given room, writing a header and any representable records, and then reading, returns them
 pub write-then-read : WriteThenRead
-write-then-read out at code rs d f h =
-    let xs : List ℕ = headerOctets code ++ joined rs in
-    let size : length xs ≡ headerLength + recordsLength rs =
-    length-append (headerOctets code) (joined rs) ∙ rw (length-header code, length-joined rs) in
-    let w = file-written out at code rs (headerLength + recordsLength rs) d f size h in
-    let rest : drop headerLength xs ≡ joined rs = drop-at (headerOctets code) (joined rs) headerLength (length-header code) in
+write-then-read out at code rs d f room =
+    let xs : List ℕ = headerOctets code ++ joined written rs in
+    let head = length-header code in
+    let size : length xs ≡ headerLength + lengthOf recordSize rs =
+    length-append (headerOctets code) (joined written rs) ∙ rw (head, length-joined written recordSize length-written rs) in
+    let w =
+    file-spliced writeRecord written Representable record-spliced out at (writeHeader out at code) (headerOctets code) rs
+    (headerLength + lengthOf recordSize rs) (header-spliced out at code d (omega arith)) f size room in
+    let rest : drop headerLength xs ≡ joined written rs = drop-at (headerOctets code) (joined written rs) headerLength head in
     record {
       written = w .0;
       reads =
           rw (w .1)
           (record {
-            header = header-read code (joined rs) d;
-            records = joined-read xs headerLength rs (omega arith) (omega arith) f rest;
+            header = header-read code (joined written rs) d;
+            records =
+                joined-read xs headerLength (WholeAt xs) written recordSize Representable length-written (record-read xs)
+                headerLength rs (omega arith) (omega arith) f rest;
           });
     }
 
 -- rewriting an accepted file gives its own octets, and all its records can be written
 pub rewrite-accepted : RewriteAccepted
-rewrite-accepted s out at code xs o f h =
+rewrite-accepted s out at code xs o f room =
     let head = header-back s code o (f .header) in
-    let tail = joined-back s o (f .records) in
-    let same : headerOctets code ++ joined (valuesOf xs) ≡ s =
+    let tail = joined-back s headerLength (WholeAt s) written recordSize Representable (record-back s o) (f .records) in
+    let same : headerOctets code ++ joined written (valuesOf xs) ≡ s =
     sym
     (head .0
-    ∙ ap (λ (l : List ℕ). headerOctets code ++ l) (tail .0 ∙ rw (drop-length s, append-nil (joined (valuesOf xs))))) in
-    let w = file-written out at code (valuesOf xs) (length s) (head .1) (tail .1) (ap length same) h in
+    ∙ ap (λ (l : List ℕ). headerOctets code ++ l) (tail .0 ∙ rw (drop-length s, append-nil (joined written (valuesOf xs))))) in
+    let long = header-long s code (f .header) in
+    let w =
+    file-spliced writeRecord written Representable record-spliced out at (writeHeader out at code) (headerOctets code) (valuesOf xs)
+    (length s) (header-spliced out at code (head .1) (omega arith)) (tail .1) (ap length same) room in
     record { representable = tail .1; written = w .0; same = w .1 ∙ same }

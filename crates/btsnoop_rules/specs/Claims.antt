@@ -11,6 +11,7 @@ use Rattle.octets.specs.Numbers.{Octets}
 use Rattle.octets.specs.Parts.{part}
 use Rattle.tiling.specs.Tiling.{Next, Placed, ended, walk, items, ending, Tiles}
 use Rattle.tiling.specs.Claims.{Reached, Final, inTurn, sum}
+use Rattle.record_rules.specs.Outputs.{All, valuesOf, placedFrom, lengthOf, Output, writeAll, WrittenAt}
 use Rattle.btsnoop_rules.specs.Header.{headerLength, served, headerAt}
 use Rattle.btsnoop_rules.specs.Record.{recordLength, end, whole, recordAt, packetAt, Record, recordStep, WholeAt}
 use Rattle.btsnoop_rules.specs.File.{surveyAt, fileWalk, File, fileAt}
@@ -67,61 +68,36 @@ pub record Representable (r : Record) : Type 0 where
   pub octets : Octets (r .packet)
 
 abbrev pub AllRepresentable : List Record → Type 0
-AllRepresentable [] = Unit {0}
-AllRepresentable (r ∷ rs) = Representable r × AllRepresentable rs
+AllRepresentable = All Representable
 
--- an output, and what the last writer answered
-pub record Output : Type 0 where
-  pub octets : List ℕ
-  pub answer : Answer ℕ
+-- the writers as steps of writing a whole file, by their own promises
+abbrev pub writeHeader : List ℕ → (at code : ℕ) → Output
+writeHeader out at code = record { octets = headerWritten out at code; answer = headerWriting (length out) at code }
 
--- one record more, at the place that the last writer answered; after a refusal nothing more is written
-abbrev pub writeNext : List ℕ → Record → Answer ℕ → Output
-writeNext out r (refused n q) = record { octets = out; answer = refused n q }
-writeNext out r (given at) =
+abbrev pub writeRecord : List ℕ → (at : ℕ) → Record → Output
+writeRecord out at r =
     record {
       octets =
           recordWritten out at (r .numbers .original) (r .numbers .flags) (r .numbers .drops) (r .numbers .time) (r .packet);
       answer = recordWriting (length out) at (r .numbers .original) (r .packet);
     }
 
-abbrev pub writeRecords : Output → List Record → Output
-writeRecords o [] = o
-writeRecords o (r ∷ rs) = writeRecords (writeNext (o .octets) r (o .answer)) rs
-
--- a file written at a place of an output: the header and then record after record, by the writers' own promises
+-- a file written at a place of an output: the header and then record after record
 abbrev pub writeFile : List ℕ → (at code : ℕ) → List Record → Output
-writeFile out at code rs =
-    writeRecords (record { octets = headerWritten out at code; answer = headerWriting (length out) at code }) rs
+writeFile out at code rs = writeAll writeRecord (writeHeader out at code) rs
 
--- how long the records are, and each at its place
-abbrev pub recordsLength : List Record → ℕ
-recordsLength [] = 0
-recordsLength (r ∷ rs) = recordLength + length (r .packet) + recordsLength rs
-
-abbrev pub placedFrom : ℕ → List Record → List (Placed Record)
-placedFrom p [] = []
-placedFrom p (r ∷ rs) = record { place = p; value = r } ∷ placedFrom (p + recordLength + length (r .packet)) rs
-
-abbrev pub valuesOf : List (Placed Record) → List Record
-valuesOf [] = []
-valuesOf (x ∷ xs) = x .value ∷ valuesOf xs
-
--- an output with a file of so many octets written at a place, every other octet as it was
-pub record WrittenAt (out : List ℕ) (at size : ℕ) (o : Output) : Type 0 where
-  pub answer : o .answer ≡ given (at + size)
-  pub long : length (o .octets) ≡ length out
-  pub before : take at (o .octets) ≡ take at out
-  pub after : drop (at + size) (o .octets) ≡ drop (at + size) out
+-- how long a record is
+abbrev pub recordSize : Record → ℕ
+recordSize r = recordLength + length (r .packet)
 
 -- given room, writing a header and any representable records, and then reading, returns them
 pub record WriteRead (out : List ℕ) (at code : ℕ) (rs : List Record) : Type 0 where
-  pub written : WrittenAt out at (headerLength + recordsLength rs) (writeFile out at code rs)
-  pub reads : Filled (part (writeFile out at code rs .octets) at (headerLength + recordsLength rs)) code (placedFrom headerLength rs)
+  pub written : WrittenAt out at (headerLength + lengthOf recordSize rs) (writeFile out at code rs)
+  pub reads : Filled (part (writeFile out at code rs .octets) at (headerLength + lengthOf recordSize rs)) code (placedFrom recordSize headerLength rs)
 
 abbrev pub WriteThenRead : Type 0
 WriteThenRead = (out : List ℕ) (at code : ℕ) (rs : List Record) → served code ≡ true → AllRepresentable rs
-    → at + (headerLength + recordsLength rs) ≤ length out → WriteRead out at code rs
+    → at + (headerLength + lengthOf recordSize rs) ≤ length out → WriteRead out at code rs
 
 -- rewriting an accepted file gives its own octets, and all its records can be written
 pub record Rewritten (s out : List ℕ) (at code : ℕ) (xs : List (Placed Record)) : Type 0 where

@@ -12,15 +12,11 @@ use Rattle.refusals.specs.Refusals.{Answer, refused, given, datalink, includedL
 use Rattle.octets.specs.Numbers.{big, octetsOf}
 use Rattle.octets.specs.Signed.{unsigned}
 use Rattle.octets.specs.Parts.{splice, put}
-use Rattle.octets.proofs.Laws.{written}
+use Rattle.octets.proofs.Fields.{length-octetsOf}
 use Rattle.octets.proofs.PartLaws.{put-room, splice-next, put-next}
 use Rattle.btsnoop_rules.specs.Header.{headerLength, served}
 use Rattle.btsnoop_rules.specs.Record.{recordLength}
 use Rattle.btsnoop_rules.specs.Writing.{headerOctets, headerWriting, headerWritten, recordOctets, recordWriting, recordWritten}
-
--- how many octets a field has
-pub number-long : (w n : ℕ) → length (octetsOf big w n) ≡ w
-number-long w n = written big w n .long
 
 module _ (out : List ℕ) (at n : ℕ) (xs : List ℕ) (long : length xs ≡ n) where
   -- a number put behind octets
@@ -28,7 +24,7 @@ module _ (out : List ℕ) (at n : ℕ) (xs : List ℕ) (long : length xs ≡ n) 
       → m ≡ splice out at (xs ++ octetsOf big v y)
   put-number {l} {m} v y h el em =
       let first : l ≡ splice out at xs = el ∙ put-room out at xs (omega arith) in
-      rw first at em ∙ put-next out at n xs long (octetsOf big v y) (omega (arith, number-long v y))
+      rw first at em ∙ put-next out at n xs long (octetsOf big v y) (omega (arith, length-octetsOf big v y))
 
 -- two numbers put behind octets
 pub put-numbers : (out : List ℕ) (at n : ℕ) (xs : List ℕ) → length xs ≡ n → {l m p : List ℕ} (v y w z : ℕ) → at + n + v + w ≤ length out
@@ -36,10 +32,10 @@ pub put-numbers : (out : List ℕ) (at n : ℕ) (xs : List ℕ) → length xs �
     → p ≡ splice out at (xs ++ (octetsOf big v y ++ octetsOf big w z))
 put-numbers out at n xs long {l} {m} {p} v y w z h el em ep =
     let front : List ℕ = xs ++ octetsOf big v y in
-    let both : length front ≡ n + v = omega (arith, length-append xs (octetsOf big v y), number-long v y) in
+    let both : length front ≡ n + v = omega (arith, length-append xs (octetsOf big v y), length-octetsOf big v y) in
     let second : m ≡ splice out at front = put-number out at n xs long v y (omega arith) el em in
     rw second at ep
-    ∙ put-next out at (n + v) front both (octetsOf big w z) (omega (arith, number-long w z))
+    ∙ put-next out at (n + v) front both (octetsOf big w z) (omega (arith, length-octetsOf big w z))
     ∙ ap (splice out at) (append-assoc xs (octetsOf big v y) (octetsOf big w z))
 
 -- a header's write: what it answers, and that the output then holds what this answer says
@@ -107,8 +103,8 @@ module _ (out : List ℕ) (at original flags drops : ℕ) (time : ℤ) (packet :
   record-parts {l} {m} {p} h el em ep =
       let lengths : List ℕ = octetsOf big 4 original ++ octetsOf big 4 (length packet) in
       let marks : List ℕ = octetsOf big 4 flags ++ (octetsOf big 4 drops ++ octetsOf big 8 (unsigned 64 time)) in
-      let eight : length lengths ≡ 8 = simp (length-append, number-long) in
-      let all : length (lengths ++ marks) ≡ recordLength = simp (length-append, number-long) in
+      let eight : length lengths ≡ 8 = simp (length-append, length-octetsOf) in
+      let all : length (lengths ++ marks) ≡ recordLength = simp (length-append, length-octetsOf) in
       let both : m ≡ splice out at (lengths ++ marks) =
       em ∙ ap (λ (l : List ℕ). splice l (at + 8) marks) el ∙ splice-next out at 8 lengths eight marks (omega arith) in
       ep

@@ -7,26 +7,20 @@ use mathlib.Core.Bool.{Bool, true, false, cond}
 use mathlib.Core.List.{List, [], _∷_, _++_, append-assoc}
 use native.Mathlib.Omega.{arith}
 use lib.ListN.{length, take, drop, length-drop}
-use lib.Seq.{take-at, length-take-le, drop-paste}
 use lib.Dec.{ltb}
 use borrow.Author.Tests.{le-ltb, le-leb, ltb-false, leb-true}
 use Rattle.refusals.specs.Refusals.{Answer, refused, given, shortHeader}
+use Rattle.refusals.proofs.Orders.{chosen}
 use Rattle.octets.specs.Numbers.{little, octetsOf, numberAt, Octets}
 use Rattle.octets.specs.Signed.{signed, unsigned}
 use Rattle.octets.specs.Parts.{splice, hasRoom}
 use Rattle.octets.proofs.Laws as Numbers
 use Rattle.octets.proofs.Signs.{twos-complement}
-use Rattle.octets.proofs.PartLaws.{part-splice, length-splice, splice-paste}
+use Rattle.octets.proofs.PartLaws.{part-splice, length-splice, splice-before, splice-behind}
 use Rattle.le_rules.specs.declared.Values.{Values}
 use Rattle.le_rules.specs.Reading.{headerLength, valuesIn, Range, outOf, within, rangeOf, packetTest, Header, headerOf, judged, readingOf, packetOf, packetIn}
 use Rattle.le_rules.specs.Writing.{headerOctets, octetsFor, writingJudged, writing, written}
 use Rattle.le_rules.specs.RoundTrip.{Representable, OnlyWritten, ReadAfterWrite, WriteAfterRead}
-
--- a test that chooses something given, and not a refusal, is passed
-chosen : {A : Type 0} (t : Bool) (n q : ℕ) {x : Answer A} {a : A} → cond t x (refused n q) ≡ given a
-    → (t ≡ true) × (x ≡ given a)
-chosen true n q e = (refl, e)
-chosen false n q e = let z : _≡_ {A = ℕ} 0 1 = cc in absurd (omega arith)
 
 -- what a header that is read shows
 record AcceptedRead (s : List ℕ) (h : Header) : Type 0 where
@@ -112,21 +106,15 @@ read-after-write out at next v packet f w =
 
 -- an accepted write changes only the octets written
 pub only-written : OnlyWritten
-unfolding written splice
+unfolding written
 only-written out at next v packet w =
     let a = writing-accepted (length out) at next v packet w in
     let s : List ℕ = octetsFor v packet in
     let size : length s ≡ headerLength + length packet = length-octets v packet in
-    let rest : List ℕ = drop (at + length s) out in
     record {
       long = rw w (length-splice out at s (omega arith));
-      before =
-          rw w
-          (ap (take at) (append-assoc (take at out) s rest)
-          ∙ take-at (take at out) (s ++ rest) at (length-take-le at out (omega arith)));
-      after =
-          rw (w, ← size)
-          (ap (drop (at + length s)) (splice-paste out at s) ∙ drop-paste out at s (length s) (omega arith) (omega arith));
+      before = rw w (splice-before out at s (omega arith));
+      after = rw (w, ← size) (splice-behind out at s (omega arith));
     }
 
 -- an input of so many octets or more, octet by octet

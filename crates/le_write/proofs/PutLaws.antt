@@ -8,14 +8,11 @@ use native.Mathlib.Omega.{arith}
 use Rattle.octets.specs.Numbers.{little, octetsOf}
 use Rattle.octets.specs.Signed.{unsigned}
 use Rattle.octets.specs.Parts.{splice, put}
-use Rattle.octets.proofs.Laws.{written}
+use Rattle.octets.proofs.Fields.{length-octetsOf}
 use Rattle.octets.proofs.PartLaws.{put-room, put-next}
 use Rattle.le_rules.specs.declared.Values.{Values}
 use Rattle.le_rules.specs.Reading.{headerLength}
 use Rattle.le_rules.specs.Writing.{headerOctets, octetsFor}
-
-number-long : (w n : ℕ) → length (octetsOf little w n) ≡ w
-number-long w n = written little w n .long
 
 -- the four values of one octet each
 abbrev pub singleOctets : Values → List ℕ
@@ -23,7 +20,7 @@ singleOctets v = v .channel ∷ unsigned 8 (v .signal) ∷ unsigned 8 (v .noise)
 
 header-long : (v : Values) → length (headerOctets v) ≡ headerLength
 unfolding headerOctets
-header-long v = simp (length-append, number-long)
+header-long v = simp (length-append, length-octetsOf)
 
 module _ (out : List ℕ) (at : ℕ) (v : Values) where
   -- the reference address behind the single octets, and the flags behind it
@@ -35,8 +32,8 @@ module _ (out : List ℕ) (at : ℕ) (v : Values) where
       let reference : List ℕ = octetsOf little 4 (v .reference) in
       let flags : List ℕ = octetsOf little 2 (v .flags) in
       let front : List ℕ = singleOctets v ++ reference in
-      let four : length reference ≡ 4 = number-long 4 (v .reference) in
-      let two : length flags ≡ 2 = number-long 2 (v .flags) in
+      let four : length reference ≡ 4 = length-octetsOf little 4 (v .reference) in
+      let two : length flags ≡ 2 = length-octetsOf little 2 (v .flags) in
       let eight : length front ≡ 8 = omega (arith, four) in
       let first : l ≡ splice out at (singleOctets v) = el ∙ put-room out at (singleOctets v) (omega arith) in
       let second : m ≡ splice out at front = em ∙ rw first (put-next out at 4 (singleOctets v) refl reference (omega arith)) in

@@ -1,3 +1,4 @@
 pub mod Laws
 pub mod PartLaws
 pub mod Signs
+pub mod Fields

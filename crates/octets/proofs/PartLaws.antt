@@ -50,6 +50,21 @@ splice-paste out at xs = ap (λ (ys : List ℕ). take at out ++ ys ++ drop (at +
 pub length-splice : (out : List ℕ) (at : ℕ) (xs : List ℕ) → at + length xs ≤ length out → length (splice out at xs) ≡ length out
 length-splice out at xs h = ap length (splice-paste out at xs) ∙ length-paste out at xs (length xs) h (omega arith)
 
+-- before octets that are spliced in, an output is as it was
+pub splice-before : (out : List ℕ) (at : ℕ) (xs : List ℕ) → at ≤ length out → take at (splice out at xs) ≡ take at out
+unfolding splice
+splice-before out at xs h =
+    let rest : List ℕ = drop (at + length xs) out in
+    ap (take at) (append-assoc (take at out) xs rest) ∙ take-at (take at out) (xs ++ rest) at (length-take-le at out h)
+
+-- and behind them
+pub splice-behind : (out : List ℕ) (at : ℕ) (xs : List ℕ) → at ≤ length out
+    → drop (at + length xs) (splice out at xs) ≡ drop (at + length xs) out
+unfolding splice
+splice-behind out at xs h =
+    drop-at (take at out ++ xs) (drop (at + length xs) out) (at + length xs)
+    (omega (arith, length-append (take at out) xs, length-take-le at out h))
+
 -- an output keeps its length, put into or not
 pub length-put : (out : List ℕ) (at : ℕ) (xs : List ℕ) → length (put out at xs) ≡ length out
 length-put out at xs = go (decLe (at + length xs) (length out))

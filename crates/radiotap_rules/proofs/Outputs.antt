@@ -4,24 +4,23 @@
 use Prim.Native.Nat.{ℕ, zero, suc, _+_, _-_, _*_, _^_, _≤_, _<_}
 use mathlib.Core.Path.{_≡_, refl, sym, ap, _∙_}
 use mathlib.Core.Bool.{true, false, and-eq-true-iff}
-use mathlib.Core.List.{List, [], _∷_, _++_, append-assoc, append-nil}
+use mathlib.Core.List.{List, [], _∷_, _++_, append-nil}
 use native.Mathlib.Omega.{arith}
 use native.Mathlib.Nat.{suc-mul, mul-le-mul-right, div-mul-le-self}
 use native.Mathlib.Decide.{decLe}
 use lib.ListN.{length, getD, take, drop, length-append}
-use lib.Seq.{take-at, drop-at, length-take-le}
 use lib.Dec.{ltb, eqb}
 use borrow.Author.Tests.{leb-true, ltb-true, eqb-true, ne-eqb}
 use Rattle.refusals.specs.Refusals.{Answer, given}
+use Rattle.refusals.proofs.Orders.{chosen}
 use Rattle.octets.specs.Parts.{part, splice, hasRoom}
-use Rattle.octets.proofs.PartLaws.{length-splice, part-splice}
+use Rattle.octets.proofs.PartLaws.{length-splice, splice-before, splice-behind, part-splice}
 use Rattle.radiotap_rules.specs.Rules.{Row, Rules, unknown, rowOf, alignmentOk, tableOk, editionTaken, served}
 use Rattle.radiotap_rules.specs.Reading.{fixedLength, wordBits, Meaning, nothing, unknownHere, field, meaning, aligned, ended, reading, read}
 use Rattle.radiotap_rules.specs.Table.{ourRules}
 use Rattle.radiotap_rules.specs.Writing.{writable, Planned, withPlan, planFrom, plan, summed, laidFields, headerOctets, writing, written}
 use Rattle.radiotap_rules.specs.Rewriting.{Writable, lastEnd}
 use Rattle.radiotap_rules.specs.Outputs.{sizeWithin, sizesWithin, lengthFits, WrittenReadsBack, EveryTableReadsBack}
-use Rattle.radiotap_rules.proofs.Walks.{chosen}
 use Rattle.radiotap_rules.proofs.Planning.{EachRow, known-from, known-alignment, each-planned, plan-aligned, length-laid, length-header}
 use Rattle.radiotap_rules.proofs.ReadBack.{read-back}
 
@@ -92,20 +91,6 @@ header-short rules most edition word values ok fits long =
       end-within most fixedLength ps small,
       mul-le-mul-right (most + 7) (plan-few rules edition word),
     )
-
--- before and behind octets that are spliced in, an output is as it was
-splice-before : (out : List ℕ) (at : ℕ) (xs : List ℕ) → at ≤ length out → take at (splice out at xs) ≡ take at out
-unfolding splice
-splice-before out at xs h =
-    let rest : List ℕ = drop (at + length xs) out in
-    ap (take at) (append-assoc (take at out) xs rest) ∙ take-at (take at out) (xs ++ rest) at (length-take-le at out h)
-
-splice-behind : (out : List ℕ) (at : ℕ) (xs : List ℕ) → at ≤ length out
-    → drop (at + length xs) (splice out at xs) ≡ drop (at + length xs) out
-unfolding splice
-splice-behind out at xs h =
-    drop-at (take at out ++ xs) (drop (at + length xs) out) (at + length xs)
-    (omega (arith, length-append (take at out) xs, length-take-le at out h))
 
 -- what the writer's answer tells of the header, in the edition that it takes, where it is an acceptance
 record Accepted (rules : Rules) (size at next edition word : ℕ) (values : List ℕ) : Type 0 where

@@ -7,12 +7,13 @@ use mathlib.Core.List.{List, [], _∷_, _++_, append-assoc}
 use native.Mathlib.Omega.{arith}
 use native.Mathlib.Nat.{add-zero, add-suc, suc-add}
 use lib.ListN.{length, getD, take, drop, length-append, length-drop, length-replicate, replicate}
-use lib.Seq.{take-at, drop-at, drop-drop, length-take-le}
+use lib.Seq.{take-at, length-take-le}
 use borrow.Author.Tests.{le-leb, le-ltb}
 use Rattle.refusals.specs.Refusals.{given}
 use Rattle.octets.specs.Numbers.{little, octetsOf, numberAt}
 use Rattle.octets.specs.Parts.{part}
 use Rattle.octets.proofs.Laws.{read-after-write}
+use Rattle.octets.proofs.Fields.{past}
 use Rattle.radiotap_rules.specs.Rules.{Rules, rowOf, knows, editionTaken}
 use Rattle.radiotap_rules.specs.Reading.{fixedLength, lengthIn, fixedHeader, bitSet, wordBits, wordsFrom, presenceWords, bitAt, nothing, unknownHere, field, meaning, aligned, Field, ended, stopped, Walk, refusedAt, shown, onMeaning, fieldsFrom, fieldsOf, readWalk, readWords, readFixed, reading}
 use Rattle.radiotap_rules.specs.Writing.{isField, writableAt, writableFrom, writable, Planned, plan, summed, laid, laidFields, headerOctets}
@@ -54,14 +55,6 @@ module _ (rules : Rules) (edition reader : ℕ) (later : edition ≤ reader) (wo
       → fieldsOf rules edition s size (word ∷ []) ≡ fieldsOf rules reader s size (word ∷ [])
   unfolding writable fieldsOf
   later-fields s size = later-walk s size wordBits 0 fixedLength refl
-
--- behind octets that stand at a place is what follows them
-past : (s : List ℕ) (p q : ℕ) (xs after : List ℕ) → p + length xs ≡ q → drop p s ≡ xs ++ after → drop q s ≡ after
-past s p q xs after at e =
-    ap (λ (k : ℕ). drop k s) (sym at)
-    ∙ sym (drop-drop (length xs) p s)
-    ∙ ap (drop (length xs)) e
-    ∙ drop-at xs after (length xs) refl
 
 -- where the fields are laid from a place on, they stand there as planned
 laid-planned : (s : List ℕ) (at : ℕ) (ps : List Planned) (values frame : List ℕ) → Aligned ps → summed ps ≤ length values

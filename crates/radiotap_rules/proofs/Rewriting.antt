@@ -12,6 +12,7 @@ use lib.Seq.{take-at, drop-at, take-add, drop-drop, getD-take, getD-drop, ext-ge
 use lib.Dec.{leb, ltb, eqb}
 use borrow.Author.Tests.{leb-true, le-leb, eqb-true, eq-eqb}
 use Rattle.refusals.specs.Refusals.{Answer, refused, given, shortHeader}
+use Rattle.refusals.proofs.Orders.{chosen}
 use Rattle.octets.specs.Numbers.{little, octetsOf, octetsAt, numberAt, Octets}
 use Rattle.octets.specs.Parts.{part, splice}
 use Rattle.octets.proofs.Laws.{write-after-read, range, octets-append, octets-take, octets-drop}
@@ -20,7 +21,7 @@ use Rattle.radiotap_rules.specs.Rules.{Rules, tableOk, editionTaken, ser
 use Rattle.radiotap_rules.specs.Reading.{fixedLength, lengthIn, fixedHeader, presenceWords, aligned, Field, ended, Walk, shown, fieldsOf}
 use Rattle.radiotap_rules.specs.Writing.{writable, Planned, plan, summed, laid, headerOctets, writing, written}
 use Rattle.radiotap_rules.specs.Rewriting.{Writable, joined, lastEnd, endOf, GapsZero, OneWord, RewritesItself}
-use Rattle.radiotap_rules.proofs.Walks.{chosen, read-served, read-shown}
+use Rattle.radiotap_rules.proofs.Walks.{read-served, read-shown}
 use Rattle.radiotap_rules.proofs.Words.{words-at, last-calls-none}
 use Rattle.radiotap_rules.proofs.Unstopped.{walk-writable}
 use Rattle.radiotap_rules.proofs.Nesting.{taken-served}

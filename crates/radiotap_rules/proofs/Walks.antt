@@ -15,11 +15,6 @@ use Rattle.radiotap_rules.specs.Rules.{Row, Rules, rowOf, knows, edition
 use Rattle.radiotap_rules.specs.Reading.{editionAbove, fixedHeader, presenceWords, wordBits, wordAt, bitAt, present, Meaning, nothing, unknownHere, field, meaning, aligned, Field, Ending, Walk, refusedAt, shown, withField, onField, fieldsFrom, fieldsOf, Reading, refusedBefore, read, readWalk, readWords, readFixed, reading}
 use Rattle.radiotap_rules.proofs.Meanings.{means-clear, means-none, means-vendor, means-bit}
 
--- a test that chooses something given, and not a refusal, holds
-pub chosen : (t : Bool) (n q : ℕ) {x : Answer ℕ} {a : ℕ} → cond t x (refused n q) ≡ given a → (t ≡ true) × (x ≡ given a)
-chosen true n q e = (refl, e)
-chosen false n q e = let z : _≡_ {A = ℕ} 0 1 = cc in absurd (omega arith)
-
 -- the field of so many octets that is shown at a position and place
 abbrev pub fieldAt : List ℕ → (q place n : ℕ) → Field
 fieldAt s q place n = record { word = wordAt q; bit = bitAt q; place = place; octets = part s place n }

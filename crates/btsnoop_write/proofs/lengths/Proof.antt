@@ -4,7 +4,8 @@ use denote.Ref.{now}
 use native.Mathlib.Omega.{arith}
 use borrow.Author.Needs.{needs}
 use Rattle.octets.specs.Numbers.{big, octetsOf}
-use Rattle.btsnoop_write.proofs.WriteLaws.{number-long, put-number}
+use Rattle.octets.proofs.Fields.{length-octetsOf}
+use Rattle.btsnoop_write.proofs.WriteLaws.{put-number}
 use Rattle.btsnoop_write.proofs.lengths.Statement.{statement}
 use Rattle.btsnoop_write.proofs.lengths.Tie as tie
 
@@ -26,7 +27,7 @@ returns c =
     let original = octetsOf big 4 (a .original) in
     let first = c .before .before .before .before .before .before .put-be32 .ensures in
     let second = c .before .before .put-be322 .ensures in
-    put-number (now (a .out)) (a .place) 4 original (number-long 4 (a .original)) 4 (a .included)
+    put-number (now (a .out)) (a .place) 4 original (length-octetsOf big 4 (a .original)) 4 (a .included)
     (omega arith) first second
 
 pub lengths-spec : {M : Type 1} → statement M

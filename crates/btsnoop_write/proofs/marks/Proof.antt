@@ -8,7 +8,8 @@ use native.Mathlib.Omega.{arith}
 use borrow.Author.Needs.{needs}
 use Rattle.octets.specs.Numbers.{big, octetsOf}
 use Rattle.octets.specs.Signed.{unsigned}
-use Rattle.btsnoop_write.proofs.WriteLaws.{number-long, put-numbers}
+use Rattle.octets.proofs.Fields.{length-octetsOf}
+use Rattle.btsnoop_write.proofs.WriteLaws.{put-numbers}
 use Rattle.btsnoop_write.proofs.marks.Statement.{statement}
 use Rattle.btsnoop_write.proofs.marks.Tie as tie
 
@@ -43,7 +44,7 @@ returns c =
     let first = c .before .before .before .before .before .before .before .before .before .before .before .put-be32 .ensures in
     let second = c .before .before .before .before .before .before .before .put-be322 .ensures in
     let third = rw bits at (c .before .before .put-be64 .ensures) in
-    put-numbers (now (a .out)) (a .place) 4 flags (number-long 4 (a .flags)) 4 (a .drops) 8 (unsigned 64 (a .time))
+    put-numbers (now (a .out)) (a .place) 4 flags (length-octetsOf big 4 (a .flags)) 4 (a .drops) 8 (unsigned 64 (a .time))
     (omega arith) first second third
 
 pub marks-spec : {M : Type 1} → statement M

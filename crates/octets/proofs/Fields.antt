@@ -7,14 +7,14 @@ use native.Mathlib.Omega.{arith}
 use native.Mathlib.Nat.{add-zero}
 use lib.ListN.{length, take, drop, take-append-drop}
 use lib.Seq.{take-at, drop-at, drop-drop}
-use Rattle.octets.specs.Numbers.{big, number, octetsOf, octetsAfter, octetsAt, numberAt, Octets}
+use Rattle.octets.specs.Numbers.{Order, number, octetsOf, octetsAfter, octetsAt, numberAt, Octets}
 use Rattle.octets.specs.Parts.{part}
 use Rattle.octets.proofs.Laws.{read-after-write, write-after-read, range, written, octets-take, octets-drop}
 use Rattle.octets.proofs.PartLaws.{octets-part}
 
 -- the octets of a number are as many as the width says
-pub length-octetsOf : (w n : ℕ) → length (octetsOf big w n) ≡ w
-length-octetsOf w n = written big w n .long
+pub length-octetsOf : (o : Order) (w n : ℕ) → length (octetsOf o w n) ≡ w
+length-octetsOf o w n = written o w n .long
 
 length-after : (s : List ℕ) (at after n : ℕ) → length (octetsAfter s at after n) ≡ n
 length-after s at after zero = refl
@@ -44,22 +44,22 @@ module _ (s : List ℕ) (p w q : ℕ) (at : p + w ≡ q) (inside : q ≤ length 
   octets-front = sym (take-append-drop w (drop p s)) ∙ rw (here, rest)
 
   -- and so do the octets of the number that they make, which fits its width
-  pub number-back : Octets s
-      → (drop p s ≡ octetsOf big w (numberAt big w s p) ++ drop q s) × (numberAt big w s p < 256 ^ w)
+  pub number-back : (order : Order) → Octets s
+      → (drop p s ≡ octetsOf order w (numberAt order w s p) ++ drop q s) × (numberAt order w s p < 256 ^ w)
   unfolding numberAt
-  number-back o =
+  number-back order o =
       let xs : List ℕ = octetsAt s p w in
       let ho : Octets xs = octets-here o in
-      let back : octetsOf big w (number big xs) ≡ xs = rw (length-after s p 0 w) at (write-after-read big xs ho) in
-      (octets-front ∙ ap (λ (l : List ℕ). l ++ drop q s) (sym back), rw (length-after s p 0 w) at (range big xs ho))
+      let back : octetsOf order w (number order xs) ≡ xs = rw (length-after s p 0 w) at (write-after-read order xs ho) in
+      (octets-front ∙ ap (λ (l : List ℕ). l ++ drop q s) (sym back), rw (length-after s p 0 w) at (range order xs ho))
 
   -- a number whose octets stand at a place is read there, and what follows them is the rest
-  pub number-read : (n : ℕ) (after : List ℕ) → n < 256 ^ w → drop p s ≡ octetsOf big w n ++ after
-      → (numberAt big w s p ≡ n) × (drop q s ≡ after)
+  pub number-read : (order : Order) (n : ℕ) (after : List ℕ) → n < 256 ^ w → drop p s ≡ octetsOf order w n ++ after
+      → (numberAt order w s p ≡ n) × (drop q s ≡ after)
   unfolding numberAt
-  number-read n after h e =
-      let xs : List ℕ = octetsOf big w n in
-      let long : length xs ≡ w = length-octetsOf w n in (
-        ap (number big) (here ∙ ap (take w) e ∙ take-at xs after w long) ∙ read-after-write big w n h,
+  number-read order n after h e =
+      let xs : List ℕ = octetsOf order w n in
+      let long : length xs ≡ w = length-octetsOf order w n in (
+        ap (number order) (here ∙ ap (take w) e ∙ take-at xs after w long) ∙ read-after-write order w n h,
         past s p q xs after (rw long at) e,
       )
