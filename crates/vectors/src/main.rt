@@ -1,5 +1,15 @@
 // Answers the stored questions on standard input by the library, one line each on standard output. The questions and
 // the expected lines are made by the independent program.
+mod answers_btsnoop;
+mod answers_btsnoop_writing;
+mod answers_le;
+mod answers_numbers;
+mod answers_radiotap;
+mod answers_radiotap_fields;
+mod answers_radiotap_writing;
+mod answers_tally;
+mod question_lines;
+
 use libc::STDOUT_FILENO;
 use question_lines::QUESTION_LENGTH;
 
