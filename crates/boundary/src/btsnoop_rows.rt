@@ -1,6 +1,7 @@
 // The answers of the BTSnoop functions as structs of the C boundary.
 ghost use mathlib.Core.Path.{_≡_};
-ghost use Rattle.btsnoop.specs.Says.{headerSays, recordSays};
+ghost use Rattle.btsnoop_header.specs.Says.{headerSays};
+ghost use Rattle.btsnoop_record.specs.Says.{recordSays};
 ghost use Rattle.btsnoop_survey.specs.Says.{surveySays, fileSays};
 ghost use Rattle.btsnoop_earlier.specs.Says.{captureSays, earlierSays};
 ghost use Rattle.refusals.specs.Says.{writeSays};
@@ -11,10 +12,10 @@ use crate::Header;
 use crate::Record;
 use crate::Survey;
 use crate::Written;
-use btsnoop::HeaderAnswer;
-use btsnoop::RecordAnswer;
 use btsnoop_earlier::Capture;
 use btsnoop_earlier::EarlierAnswer;
+use btsnoop_header::HeaderAnswer;
+use btsnoop_record::RecordAnswer;
 use btsnoop_survey::FileAnswer;
 use btsnoop_survey::SurveyAnswer;
 use refusals::WriteAnswer;

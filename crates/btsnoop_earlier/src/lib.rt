@@ -5,12 +5,12 @@ ghost use lib.Signed.{leZ};
 ghost use mathlib.Core.Bool.{cond};
 ghost use lib.Dec.{eqb};
 ghost use Rattle.octets.specs.Parts.{part};
-ghost use Rattle.btsnoop.specs.Says.{recordSays};
+ghost use Rattle.btsnoop_record.specs.Says.{recordSays};
 ghost use Rattle.btsnoop_earlier.specs.Earlier.{smallerTime, decided, earlierOf, earlierPart};
 ghost use Rattle.btsnoop_earlier.specs.Says.{captureSays, earlierSays};
 ghost use Rattle.refusals.specs.Refusals.{given};
 ghost use Rattle.btsnoop_rules.specs.Record.{end, whole};
-use btsnoop::RecordAnswer;
+use btsnoop_record::RecordAnswer;
 use btsnoop_rules::Numbers;
 use refusals::Refusal;
 
@@ -57,8 +57,8 @@ pub fn answer(first: &[u8], first_at: usize, second: &[u8], second_at: usize) ->
     ensures { λ r. ⌜ earlierSays r ≡ earlierOf (now (first .entry)) «first_at» (now (second .entry)) «second_at» ⌝ }
 {
     decide(
-        btsnoop::record::read(first, first_at),
-        btsnoop::record::read(second, second_at),
+        btsnoop_record::read(first, first_at),
+        btsnoop_record::read(second, second_at),
     )
 }
 

@@ -1,5 +1,10 @@
-// Document 01's rules for BTSnoop: the definitions that the promises of `btsnoop` cite, and the claims that follow from
-// them (specs/). They stand below the code, so that a changed rule is refused in the proof of a claim.
+// Document 01's rules for BTSnoop: the definitions that the promises of the code cite, and the claims that follow
+// from them (specs/). They stand below the code, so that a changed rule is refused in the proof of a claim.
+
+// The length of the file header, which is the place of the first record.
+pub const HEADER_LENGTH: usize = 16;
+// The length of a record before its packet.
+pub const RECORD_LENGTH: usize = 24;
 
 // The numbers in a record's 24 octets.
 pub struct Numbers {

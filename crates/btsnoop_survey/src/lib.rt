@@ -5,9 +5,9 @@ ghost use lib.ListN.{length};
 ghost use Rattle.btsnoop_rules.specs.Header.{headerLength};
 ghost use Rattle.btsnoop_rules.specs.File.{surveyAt, fileOf, fileAt};
 ghost use Rattle.btsnoop_survey.specs.Says.{StepSays, surveySays, fileSays};
-use btsnoop::HEADER_LENGTH;
-use btsnoop::HeaderAnswer;
-use btsnoop::RECORD_LENGTH;
+use btsnoop_header::HeaderAnswer;
+use btsnoop_rules::HEADER_LENGTH;
+use btsnoop_rules::RECORD_LENGTH;
 use refusals::Refusal;
 
 // What a survey answers: how many records it passed, and the place reached or the refusal.
@@ -113,7 +113,7 @@ fn judge(s: &[u8], place: usize) -> Step
 pub fn check(s: &[u8]) -> FileAnswer
     ensures { λ r. ⌜ fileSays r ≡ fileAt (now (s .entry)) ⌝ }
 {
-    match btsnoop::header::read(s) {
+    match btsnoop_header::read(s) {
         HeaderAnswer::Refused(refusal) => FileAnswer::Refused(refusal),
         HeaderAnswer::Accepted(datalink) => checked(datalink, survey(s, HEADER_LENGTH, s.len())),
     }

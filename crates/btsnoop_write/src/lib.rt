@@ -8,8 +8,8 @@ ghost use Rattle.octets.specs.Signed.{unsigned};
 ghost use Rattle.octets.specs.Parts.{splice};
 ghost use Rattle.btsnoop_rules.specs.Writing.{headerOctets, headerWriting, headerWritten, recordWriting, recordWritten};
 ghost use Rattle.refusals.specs.Says.{writeSays};
-use btsnoop::HEADER_LENGTH;
-use btsnoop::RECORD_LENGTH;
+use btsnoop_rules::HEADER_LENGTH;
+use btsnoop_rules::RECORD_LENGTH;
 use refusals::WriteAnswer;
 
 // Writes a file header with a datalink code.
@@ -17,7 +17,7 @@ pub fn header(out: &mut [u8], place: usize, datalink: u32) -> WriteAnswer
     ensures { λ r. ⌜ writeSays r ≡ headerWriting (length (now (out .entry))) place datalink ⌝ }
     ensures { λ _. ⌜ now (out .exit) ≡ headerWritten (now (out .entry)) place datalink ⌝ }
 {
-    if !btsnoop::header::served(datalink) {
+    if !btsnoop_header::served(datalink) {
         return refusals::write_refused(refusals::DATALINK);
     }
     if !octets::has_room(out.len(), place, HEADER_LENGTH) {

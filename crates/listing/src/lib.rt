@@ -7,9 +7,9 @@ ghost use Rattle.btsnoop_rules.specs.Header.{headerLength};
 ghost use Rattle.btsnoop_rules.specs.File.{fileWalk};
 ghost use Rattle.listing_rules.specs.Lines.{mostOctets, mostListed, walkLines, listing, listingWriting, listingWritten};
 ghost use Rattle.listing_lines.specs.Wrote.{Wrote};
-use btsnoop::HEADER_LENGTH;
-use btsnoop::HeaderAnswer;
-use btsnoop::RecordAnswer;
+use btsnoop_header::HeaderAnswer;
+use btsnoop_record::RecordAnswer;
+use btsnoop_rules::HEADER_LENGTH;
 use refusals::WriteAnswer;
 
 // The input is above the most octets that are listed.
@@ -49,7 +49,7 @@ fn lines(output: &mut [u8], at: usize, input: &[u8]) -> usize
     if MOST_OCTETS < input.len() {
         return listing_lines::stop_line(output, at, INPUT_ABOVE, MOST_OCTETS);
     }
-    match btsnoop::header::read(input) {
+    match btsnoop_header::read(input) {
         HeaderAnswer::Refused(refusal) => listing_lines::stop_line(
             output,
             at,
@@ -73,7 +73,7 @@ fn record_lines(output: &mut [u8], at: usize, input: &[u8]) -> usize
     let mut place = HEADER_LENGTH;
     let mut count: usize = 0;
     loop {
-        match btsnoop::record::read(input, place) {
+        match btsnoop_record::read(input, place) {
             RecordAnswer::Refused(refusal) => {
                 return listing_lines::stop_line(output, next, refusal.number, refusal.place);
             }

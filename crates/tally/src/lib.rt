@@ -25,8 +25,8 @@ pub struct Outcome {
 pub fn updated(tally: Tally, entry: Entry) -> Outcome
     ensures { λ r. ⌜ UpdatedSays tally (updating tally entry) r ⌝ }
 {
-    let received = one_if(btsnoop::record::received(entry.flags));
-    let commands = one_if(btsnoop::record::command(entry.flags));
+    let received = one_if(btsnoop_record::received(entry.flags));
+    let commands = one_if(btsnoop_record::command(entry.flags));
     let octets = entry.included as u64;
     let lost = lost_by(tally, entry.drops);
     if fits(tally, received, commands, octets, lost) {
@@ -66,7 +66,7 @@ fn lost_by(tally: Tally, drops: u32) -> u64
     if tally.records == 0 {
         0
     } else {
-        btsnoop::drops::between(tally.last, drops) as u64
+        btsnoop_drops::between(tally.last, drops) as u64
     }
 }
 

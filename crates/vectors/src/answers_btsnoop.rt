@@ -53,7 +53,7 @@ fn record(s: &[u8], place: usize) {
             r.next,
         ],
     );
-    question_lines::octets(btsnoop::record::packet(s, place));
+    question_lines::octets(btsnoop_record::packet(s, place));
 }
 
 fn survey(s: &[u8], place: usize, number: usize) {

@@ -36,7 +36,7 @@ use boundary_radiotap::Word;
 pub extern "C" fn zalghimo_btsnoop_header(input: &[u8]) -> Header
     ensures { λ r. ⌜ r ≡ headerRow (headerAt (now (input .entry))) ⌝ }
 {
-    boundary::btsnoop_rows::header(btsnoop::header::read(input))
+    boundary::btsnoop_rows::header(btsnoop_header::read(input))
 }
 
 // Checks a whole BTSnoop file.
@@ -52,7 +52,7 @@ pub extern "C" fn zalghimo_btsnoop_check(input: &[u8]) -> File
 pub extern "C" fn zalghimo_btsnoop_record(input: &[u8], place: usize) -> Record
     ensures { λ r. ⌜ r ≡ recordRow (recordAt (now (input .entry)) place) ⌝ }
 {
-    boundary::btsnoop_rows::record(btsnoop::record::read(input, place))
+    boundary::btsnoop_rows::record(btsnoop_record::read(input, place))
 }
 
 // Surveys the records from a place on, passing at most a number of them.
@@ -97,7 +97,7 @@ pub extern "C" fn zalghimo_btsnoop_write_time(seconds: i64, microseconds: u32) -
 pub extern "C" fn zalghimo_btsnoop_drops(earlier: u32, later: u32) -> u32
     ensures { λ r. ⌜ r ≡ dropsBetween earlier later ⌝ }
 {
-    btsnoop::drops::between(earlier, later)
+    btsnoop_drops::between(earlier, later)
 }
 
 // Writes a BTSnoop file header into an output at a place.

@@ -1,8 +1,8 @@
 -- `btsnoop_earlier::first_ended` meets its contract: each arm is the case of `decided` that the second answer is.
 -- Assumes nothing.
 use mathlib.Core.Path.{_≡_, sym, ap, _∙_}
-use Rattle.btsnoop.specs.Says.{recordSays}
-use Rattle.btsnoop.specs.declared.RecordAnswer.{RecordAnswer}
+use Rattle.btsnoop_record.specs.Says.{recordSays}
+use Rattle.btsnoop_record.specs.declared.RecordAnswer.{RecordAnswer}
 use Rattle.btsnoop_earlier.specs.Earlier.{decided}
 use Rattle.refusals.specs.Refusals.{given}
 use Rattle.btsnoop_rules.specs.Record.{end, whole}

@@ -3,7 +3,7 @@
 use mathlib.Core.Path.{sym, ap, _∙_}
 use denote.Ref.{now}
 use Rattle.tiling.specs.Tiling.{Survey}
-use Rattle.btsnoop.specs.Says.{headerSays}
+use Rattle.btsnoop_header.specs.Says.{headerSays}
 use Rattle.btsnoop_rules.specs.File.{fileOf, behind, fileAt}
 use Rattle.btsnoop_survey.proofs.SurveyLaws.{surveyed}
 use borrow.Author.Needs.{needs}

@@ -7,7 +7,7 @@ use mathlib.Core.List.{List}
 use denote.Ref.{now}
 use borrow.Author.Needs.{needs}
 use Rattle.btsnoop_rules.proofs.HeaderLaws.{header-long}
-use Rattle.btsnoop.specs.Says.{headerSays}
+use Rattle.btsnoop_header.specs.Says.{headerSays}
 use Rattle.listing_lines.specs.Wrote.{Wrote}
 use Rattle.listing_lines.proofs.WroteLaws.{wrote-then}
 use Rattle.listing_rules.proofs.ListingLaws.{listing-above, listing-behind}

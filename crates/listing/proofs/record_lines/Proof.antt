@@ -9,7 +9,7 @@ use denote.Ref.{now}
 use borrow.Author.Needs.{needs}
 use Rattle.btsnoop_rules.specs.Record.{stepOn}
 use Rattle.btsnoop_rules.proofs.Files.{forward}
-use Rattle.btsnoop.specs.Says.{recordSays}
+use Rattle.btsnoop_record.specs.Says.{recordSays}
 use Rattle.listing.proofs.RecordLaws.{Listed, start, refuses, ends, passes}
 use Rattle.listing.proofs.record_lines.Statement.{statement}
 use Rattle.listing.proofs.record_lines.Tie as tie

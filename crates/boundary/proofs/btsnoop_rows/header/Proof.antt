@@ -1,8 +1,8 @@
 -- `boundary::btsnoop_rows::header` meets its contract: each arm is the row of the case that the answer is.
 -- Assumes nothing.
 use mathlib.Core.Path.{_≡_, sym, ap, _∙_}
-use Rattle.btsnoop.specs.Says.{headerSays}
-use Rattle.btsnoop.specs.declared.HeaderAnswer.{HeaderAnswer}
+use Rattle.btsnoop_header.specs.Says.{headerSays}
+use Rattle.btsnoop_header.specs.declared.HeaderAnswer.{HeaderAnswer}
 use Rattle.boundary.specs.Rows.{headerRow}
 use borrow.Author.Needs.{needs}
 use Rattle.boundary.proofs.btsnoop_rows.header.Statement.{statement}

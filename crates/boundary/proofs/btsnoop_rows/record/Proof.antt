@@ -1,8 +1,8 @@
 -- `boundary::btsnoop_rows::record` meets its contract: each arm is the row of the case that the answer is.
 -- Assumes nothing.
 use mathlib.Core.Path.{_≡_, sym, ap, _∙_}
-use Rattle.btsnoop.specs.Says.{recordSays}
-use Rattle.btsnoop.specs.declared.RecordAnswer.{RecordAnswer}
+use Rattle.btsnoop_record.specs.Says.{recordSays}
+use Rattle.btsnoop_record.specs.declared.RecordAnswer.{RecordAnswer}
 use Rattle.boundary.specs.Rows.{recordRow}
 use mir.Syntax.{w64}
 use mir.Facts.{toZ-ofZ}
