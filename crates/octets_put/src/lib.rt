@@ -3,6 +3,8 @@
 ghost use mathlib.Core.Path.{_≡_};
 ghost use Rattle.octets.specs.Numbers.{little, big, octetsOf};
 ghost use Rattle.octets.specs.Parts.{put as putAt};
+use octets_of::big;
+use octets_of::little;
 
 // Writes octets into an output from a place on; without room for all of them it writes none.
 pub fn put(out: &mut [u8], at: usize, octets: &[u8])
@@ -23,110 +25,40 @@ pub fn put(out: &mut [u8], at: usize, octets: &[u8])
 pub fn put_be16(out: &mut [u8], at: usize, n: u16)
     ensures { λ _. ⌜ now (out .exit) ≡ putAt (now (out .entry)) at (octetsOf big 2 n) ⌝ }
 {
-    put(out, at, &octets_be16(n));
+    put(out, at, &big::octets16(n));
 }
 
 // Writes a 32-bit number, most significant octet first.
 pub fn put_be32(out: &mut [u8], at: usize, n: u32)
     ensures { λ _. ⌜ now (out .exit) ≡ putAt (now (out .entry)) at (octetsOf big 4 n) ⌝ }
 {
-    put(out, at, &octets_be32(n));
+    put(out, at, &big::octets32(n));
 }
 
 // Writes a 64-bit number, most significant octet first.
 pub fn put_be64(out: &mut [u8], at: usize, n: u64)
     ensures { λ _. ⌜ now (out .exit) ≡ putAt (now (out .entry)) at (octetsOf big 8 n) ⌝ }
 {
-    put(out, at, &octets_be64(n));
+    put(out, at, &big::octets64(n));
 }
 
 // Writes a 16-bit number, least significant octet first.
 pub fn put_le16(out: &mut [u8], at: usize, n: u16)
     ensures { λ _. ⌜ now (out .exit) ≡ putAt (now (out .entry)) at (octetsOf little 2 n) ⌝ }
 {
-    put(out, at, &octets_le16(n));
+    put(out, at, &little::octets16(n));
 }
 
 // Writes a 32-bit number, least significant octet first.
 pub fn put_le32(out: &mut [u8], at: usize, n: u32)
     ensures { λ _. ⌜ now (out .exit) ≡ putAt (now (out .entry)) at (octetsOf little 4 n) ⌝ }
 {
-    put(out, at, &octets_le32(n));
+    put(out, at, &little::octets32(n));
 }
 
 // Writes a 64-bit number, least significant octet first.
 pub fn put_le64(out: &mut [u8], at: usize, n: u64)
     ensures { λ _. ⌜ now (out .exit) ≡ putAt (now (out .entry)) at (octetsOf little 8 n) ⌝ }
 {
-    put(out, at, &octets_le64(n));
-}
-
-// The octets of a 16-bit number, most significant first.
-fn octets_be16(n: u16) -> [u8; 2]
-    ensures { λ r. ⌜ r ≡ octetsOf big 2 n ⌝ }
-{
-    [(n / 256 % 256) as u8, (n % 256) as u8]
-}
-
-// The octets of a 32-bit number, most significant first.
-fn octets_be32(n: u32) -> [u8; 4]
-    ensures { λ r. ⌜ r ≡ octetsOf big 4 n ⌝ }
-{
-    [
-        (n / 256 / 256 / 256 % 256) as u8,
-        (n / 256 / 256 % 256) as u8,
-        (n / 256 % 256) as u8,
-        (n % 256) as u8,
-    ]
-}
-
-// The octets of a 64-bit number, most significant first.
-fn octets_be64(n: u64) -> [u8; 8]
-    ensures { λ r. ⌜ r ≡ octetsOf big 8 n ⌝ }
-{
-    [
-        (n / 256 / 256 / 256 / 256 / 256 / 256 / 256 % 256) as u8,
-        (n / 256 / 256 / 256 / 256 / 256 / 256 % 256) as u8,
-        (n / 256 / 256 / 256 / 256 / 256 % 256) as u8,
-        (n / 256 / 256 / 256 / 256 % 256) as u8,
-        (n / 256 / 256 / 256 % 256) as u8,
-        (n / 256 / 256 % 256) as u8,
-        (n / 256 % 256) as u8,
-        (n % 256) as u8,
-    ]
-}
-
-// The octets of a 16-bit number, least significant first.
-fn octets_le16(n: u16) -> [u8; 2]
-    ensures { λ r. ⌜ r ≡ octetsOf little 2 n ⌝ }
-{
-    [(n % 256) as u8, (n / 256 % 256) as u8]
-}
-
-// The octets of a 32-bit number, least significant first.
-fn octets_le32(n: u32) -> [u8; 4]
-    ensures { λ r. ⌜ r ≡ octetsOf little 4 n ⌝ }
-{
-    [
-        (n % 256) as u8,
-        (n / 256 % 256) as u8,
-        (n / 256 / 256 % 256) as u8,
-        (n / 256 / 256 / 256 % 256) as u8,
-    ]
-}
-
-// The octets of a 64-bit number, least significant first.
-fn octets_le64(n: u64) -> [u8; 8]
-    ensures { λ r. ⌜ r ≡ octetsOf little 8 n ⌝ }
-{
-    [
-        (n % 256) as u8,
-        (n / 256 % 256) as u8,
-        (n / 256 / 256 % 256) as u8,
-        (n / 256 / 256 / 256 % 256) as u8,
-        (n / 256 / 256 / 256 / 256 % 256) as u8,
-        (n / 256 / 256 / 256 / 256 / 256 % 256) as u8,
-        (n / 256 / 256 / 256 / 256 / 256 / 256 % 256) as u8,
-        (n / 256 / 256 / 256 / 256 / 256 / 256 / 256 % 256) as u8,
-    ]
+    put(out, at, &little::octets64(n));
 }

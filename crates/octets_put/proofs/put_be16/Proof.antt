@@ -7,8 +7,8 @@ use Rattle.octets.specs.Parts.{put}
 use Rattle.octets_put.proofs.put_be16.Statement.{statement}
 use Rattle.octets_put.proofs.put_be16.Tie as tie
 
-octets-be16-requires : tie.Need-octets-be16-requires
-octets-be16-requires c κs = search needs
+octets16-requires : tie.Need-octets16-requires
+octets16-requires c κs = search needs
 
 slice-aggregate-put : tie.Need-slice-aggregate-put
 slice-aggregate-put c = search needs
@@ -22,8 +22,8 @@ same-length c = search needs
 returns : tie.Need-returns
 returns c =
     let a = c .before .before .before .before .before .before .before .args in
-    c .before .before .put .ensures ∙ ap (put (now (a .out)) (a .at)) (c .before .before .before .before .octets-be16 .ensures)
+    c .before .before .put .ensures ∙ ap (put (now (a .out)) (a .at)) (c .before .before .before .before .octets16 .ensures)
 
 pub put-be16-spec : {M : Type 1} → statement M
 put-be16-spec =
-    tie.close (tie.spec octets-be16-requires slice-aggregate-put put-requires same-length returns)
+    tie.close (tie.spec octets16-requires slice-aggregate-put put-requires same-length returns)

@@ -7,8 +7,8 @@ use Rattle.octets.specs.Parts.{put}
 use Rattle.octets_put.proofs.put_be64.Statement.{statement}
 use Rattle.octets_put.proofs.put_be64.Tie as tie
 
-octets-be64-requires : tie.Need-octets-be64-requires
-octets-be64-requires c κs = search needs
+octets64-requires : tie.Need-octets64-requires
+octets64-requires c κs = search needs
 
 slice-aggregate-put : tie.Need-slice-aggregate-put
 slice-aggregate-put c = search needs
@@ -22,8 +22,8 @@ same-length c = search needs
 returns : tie.Need-returns
 returns c =
     let a = c .before .before .before .before .before .before .before .args in
-    c .before .before .put .ensures ∙ ap (put (now (a .out)) (a .at)) (c .before .before .before .before .octets-be64 .ensures)
+    c .before .before .put .ensures ∙ ap (put (now (a .out)) (a .at)) (c .before .before .before .before .octets64 .ensures)
 
 pub put-be64-spec : {M : Type 1} → statement M
 put-be64-spec =
-    tie.close (tie.spec octets-be64-requires slice-aggregate-put put-requires same-length returns)
+    tie.close (tie.spec octets64-requires slice-aggregate-put put-requires same-length returns)

@@ -7,8 +7,8 @@ use Rattle.octets.specs.Parts.{put}
 use Rattle.octets_put.proofs.put_le16.Statement.{statement}
 use Rattle.octets_put.proofs.put_le16.Tie as tie
 
-octets-le16-requires : tie.Need-octets-le16-requires
-octets-le16-requires c κs = search needs
+octets16-requires : tie.Need-octets16-requires
+octets16-requires c κs = search needs
 
 slice-aggregate-put : tie.Need-slice-aggregate-put
 slice-aggregate-put c = search needs
@@ -22,8 +22,8 @@ same-length c = search needs
 returns : tie.Need-returns
 returns c =
     let a = c .before .before .before .before .before .before .before .args in
-    c .before .before .put .ensures ∙ ap (put (now (a .out)) (a .at)) (c .before .before .before .before .octets-le16 .ensures)
+    c .before .before .put .ensures ∙ ap (put (now (a .out)) (a .at)) (c .before .before .before .before .octets16 .ensures)
 
 pub put-le16-spec : {M : Type 1} → statement M
 put-le16-spec =
-    tie.close (tie.spec octets-le16-requires slice-aggregate-put put-requires same-length returns)
+    tie.close (tie.spec octets16-requires slice-aggregate-put put-requires same-length returns)

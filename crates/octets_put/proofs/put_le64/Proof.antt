@@ -7,8 +7,8 @@ use Rattle.octets.specs.Parts.{put}
 use Rattle.octets_put.proofs.put_le64.Statement.{statement}
 use Rattle.octets_put.proofs.put_le64.Tie as tie
 
-octets-le64-requires : tie.Need-octets-le64-requires
-octets-le64-requires c κs = search needs
+octets64-requires : tie.Need-octets64-requires
+octets64-requires c κs = search needs
 
 slice-aggregate-put : tie.Need-slice-aggregate-put
 slice-aggregate-put c = search needs
@@ -22,8 +22,8 @@ same-length c = search needs
 returns : tie.Need-returns
 returns c =
     let a = c .before .before .before .before .before .before .before .args in
-    c .before .before .put .ensures ∙ ap (put (now (a .out)) (a .at)) (c .before .before .before .before .octets-le64 .ensures)
+    c .before .before .put .ensures ∙ ap (put (now (a .out)) (a .at)) (c .before .before .before .before .octets64 .ensures)
 
 pub put-le64-spec : {M : Type 1} → statement M
 put-le64-spec =
-    tie.close (tie.spec octets-le64-requires slice-aggregate-put put-requires same-length returns)
+    tie.close (tie.spec octets64-requires slice-aggregate-put put-requires same-length returns)
