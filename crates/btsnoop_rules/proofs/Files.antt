@@ -8,22 +8,23 @@ use native.Mathlib.Omega.{arith}
 use native.Mathlib.Nat.{lt-of-not-le}
 use native.Mathlib.Decide.{decLe, ℕ-discrete}
 use lib.ListN.{length}
-use Rattle.refusals.specs.Refusals.{Answer, refused, given}
+use Rattle.refusals.specs.Refusals.{Answer, refused, given, shortRecord, includedLength, shortPacket, recordPlace}
 use Rattle.tiling.specs.Tiling.{Next, Placed, Ending, ended, more, broken, items, ending, used, onward, walk, Tiles, none, one}
 use Rattle.tiling.specs.Claims.{Forward, Reached}
-use Rattle.tiling.proofs.Walks.{survey-inside, count-is-passed, surveys-add, tiles-walk, never-more as never-more-walk}
+use Rattle.tiling.proofs.Walks.{survey-inside, count-is-passed, surveys-add, tiles-walk, never-more as never-more-walk, broken-inside}
 use Rattle.record_rules.proofs.Filling.{filled-walk as over-filled, walk-filled as filled-over}
 use Rattle.btsnoop_rules.specs.declared.Numbers.{Numbers}
 use Rattle.btsnoop_rules.specs.Header.{headerLength, headerAt}
 use Rattle.btsnoop_rules.specs.Record.{recordLength, numbersAt, Found, end, whole, recordJudged, recordAt, packetIn, packetAt, Record, stepOn, recordStep, WholeAt}
 use Rattle.btsnoop_rules.specs.File.{surveyAt, fileWalk, File, fileOf, behind, fileAt}
-use Rattle.btsnoop_rules.specs.Claims.{FoundExactly, WholeExactly, Filled, AcceptedFile, AcceptedExactly, Meets, atEnd, onRecord, WalkMeets, SurveysInTurn, SurveyCountsPassed, NeverMore, WalkNeverMore}
+use Rattle.btsnoop_rules.specs.Claims.{FoundExactly, WholeExactly, Filled, AcceptedFile, AcceptedExactly, Meets, atEnd, onRecord, WalkMeets, SurveysInTurn, SurveyCountsPassed, NeverMore, WalkNeverMore, WalkNever17, CheckNever17}
+use Rattle.btsnoop_rules.proofs.Orders.{header-never-17}
 use Rattle.btsnoop_rules.proofs.HeaderLaws.{header-long}
 use Rattle.btsnoop_rules.proofs.RecordLaws.{record-below, record-past, record-end, record-short, record-judged, judged-above, judged-past, judged-whole}
 
--- what the reader answers at a place: a refusal, the end at the input's end, or a record that lies whole
+-- what the reader answers at a place: a refusal, which is 17 only at a wrong place, the end at the input's end, or a record that lies whole
 data Seen (s : List ℕ) (p : ℕ) : Answer Found → Type 0 where
-  refusal : {n q : ℕ} → Seen s p (refused n q)
+  refusal : {n q : ℕ} → (headerLength ≤ p → p ≤ length s → n ≡ recordPlace → ⊥) → Seen s p (refused n q)
   last : p ≡ length s → Seen s p (given end)
   lying : headerLength ≤ p → numbersAt s p .included ≤ numbersAt s p .original
       → p + recordLength + numbersAt s p .included ≤ length s
@@ -40,8 +41,8 @@ judged-seen s p l h = go (decLe (n .included) (n .original)) (decLe (recordLengt
     left = length s - p
 
     go : Dec (n .included ≤ n .original) → Dec (recordLength + n .included ≤ left) → Seen s p (recordJudged left p n)
-    go (no a) b = rw (judged-above left p n (lt-of-not-le a)) refusal
-    go (yes a) (no b) = rw (judged-past left p n a (lt-of-not-le b)) refusal
+    go (no a) b = rw (judged-above left p n (lt-of-not-le a)) (refusal {n = includedLength} (λ l h e. omega arith))
+    go (yes a) (no b) = rw (judged-past left p n a (lt-of-not-le b)) (refusal {n = shortPacket} (λ l h e. omega arith))
     go (yes a) (yes b) = rw (judged-whole left p n a b) (lying l a (omega arith))
 
 seen : (s : List ℕ) (p : ℕ) → Seen s p (recordAt s p)
@@ -49,10 +50,10 @@ seen s p = go (decLe headerLength p) (decLe p (length s)) (ℕ-discrete p (lengt
   where
     go : Dec (headerLength ≤ p) → Dec (p ≤ length s) → Dec (p ≡ length s) → Dec (recordLength ≤ length s - p)
         → Seen s p (recordAt s p)
-    go (no l) i e h = rw (record-below s p (lt-of-not-le l)) refusal
-    go (yes l) (no i) e h = rw (record-past s p l (lt-of-not-le i)) refusal
+    go (no l) i e h = rw (record-below s p (lt-of-not-le l)) (refusal (λ i h e. l i))
+    go (yes l) (no i) e h = rw (record-past s p l (lt-of-not-le i)) (refusal (λ l h e. i h))
     go (yes l) (yes i) (yes e) h = rw (record-end s p l e) (last e)
-    go (yes l) (yes i) (no e) (no h) = rw (record-short s p l (omega arith) (lt-of-not-le h)) refusal
+    go (yes l) (yes i) (no e) (no h) = rw (record-short s p l (omega arith) (lt-of-not-le h)) (refusal {n = shortRecord} (λ l h e. omega arith))
     go (yes l) (yes i) (no e) (yes h) = rw (record-judged s p l (omega arith) h) (judged-seen s p l h)
 
 module _ (s : List ℕ) (p : ℕ) (r : Record) (q : ℕ) where
@@ -77,7 +78,7 @@ module _ (s : List ℕ) (p : ℕ) (r : Record) (q : ℕ) where
       found w = ap (stepOn s) (whole-read w) ∙ rw (← w .packet)
 
       lies : {x : Answer Found} → Seen s p x → stepOn s x ≡ given (Next.whole r q) → WholeAt s p r q
-      lies refusal e = let z : _≡_ {A = ℕ} 0 1 = cc in absurd (omega arith)
+      lies (refusal f) e = let z : _≡_ {A = ℕ} 0 1 = cc in absurd (omega arith)
       lies (last h) e = let z : _≡_ {A = ℕ} 0 1 = cc in absurd (omega arith)
       lies (lying l a f) e =
           subst₂ (WholeAt s p) (cc) (cc)
@@ -102,7 +103,7 @@ forward s =
     lies p r q e = whole-exactly s p r q .lies e
 
     is-end : (p : ℕ) {x : Answer Found} → Seen s p x → stepOn s x ≡ given Next.end → p ≡ length s
-    is-end p refusal e = let z : _≡_ {A = ℕ} 0 1 = cc in absurd (omega arith)
+    is-end p (refusal f) e = let z : _≡_ {A = ℕ} 0 1 = cc in absurd (omega arith)
     is-end p (last h) e = h
     is-end p (lying l a f) e = let z : _≡_ {A = ℕ} 0 1 = cc in absurd (omega arith)
 
@@ -192,3 +193,30 @@ unfolding fileWalk
 walk-never-more s code h =
     let long : headerLength ≤ length s = header-long s code h in
     never-more-walk headerLength (length s) (recordStep s) (forward s) (length s) headerLength (omega arith) long (omega arith)
+
+-- and it never gives 17, since every place that it comes to lies behind the header and inside the input
+pub walk-never-17 : WalkNever17
+unfolding fileWalk
+walk-never-17 s code q h e =
+    let b = broken-inside headerLength (length s) (recordStep s) (forward s) (length s) headerLength (omega arith) (header-long s code h) recordPlace q e in
+    never (b .0) (b .1) (b .2) (seen s (b .0)) (b .3)
+  where
+    never : (p : ℕ) → headerLength ≤ p → p ≤ length s → {x : Answer Found} → Seen s p x → stepOn s x ≡ refused recordPlace q → ⊥
+    never p l i (refusal f) e = f l i (cc)
+    never p l i (last f) e = let z : _≡_ {A = ℕ} 0 1 = cc in omega arith
+    never p l i (lying f a k) e = let z : _≡_ {A = ℕ} 0 1 = cc in omega arith
+
+-- nor does the check of a file
+pub check-never-17 : CheckNever17
+unfolding fileAt
+check-never-17 s q = under (headerAt s) refl
+  where
+    over : (code : ℕ) → headerAt s ≡ given code → (e : Ending) → ending (fileWalk s) ≡ e
+        → fileOf code (length (items (fileWalk s))) e ≡ refused recordPlace q → ⊥
+    over code h (ended r) e g = let z : _≡_ {A = ℕ} 0 1 = cc in omega arith
+    over code h (more r) e g = rw e at (walk-never-more s code h)
+    over code h (broken n r) e g = walk-never-17 s code q h (cc)
+
+    under : (x : Answer ℕ) → headerAt s ≡ x → behind s x ≡ refused recordPlace q → ⊥
+    under (refused n r) h g = header-never-17 s q (cc)
+    under (given code) h g = over code h (ending (fileWalk s)) refl g

@@ -1,3 +1,4 @@
+pub mod Orders
 pub mod HeaderLaws
 pub mod RecordLaws
 pub mod Files

@@ -2,37 +2,46 @@
 -- Assumes nothing.
 use Prim.Native.Nat.{ℕ, zero, suc, _+_, _-_, _≤_, _<_}
 use mathlib.Core.Path.{_≡_, refl, ap}
+use mathlib.Core.Logic.{_⊎_, inl, inr}
 use mathlib.Core.List.{List}
 use lib.ListN.{length, List·getD-eq-default}
-use borrow.Author.Tests.{le-leb, lt-leb, eq-eqb, ne-eqb}
+use borrow.Author.Tests.{le-leb, ne-eqb}
 use native.Mathlib.Omega.{arith}
 use Rattle.refusals.specs.Refusals.{refused, given, shortRecord, includedLength, shortPacket, recordPlace}
+use Rattle.refusals.specs.Orders.{Exactly}
 use Rattle.octets.specs.Numbers.{big, number, octetsAfter, numberAt}
 use Rattle.btsnoop_rules.specs.declared.Numbers.{Numbers}
 use Rattle.btsnoop_rules.specs.Header.{headerLength}
 use Rattle.btsnoop_rules.specs.Record.{recordLength, numbersAt, end, whole, recordJudged, recordAt}
+use Rattle.btsnoop_rules.specs.Orders.{NumbersOrder}
+use Rattle.btsnoop_rules.proofs.Orders.{record-judged-exactly, record-read-exactly}
 
 module _ (s : List ℕ) (p : ℕ) where
   pub record-below : p < headerLength → recordAt s p ≡ refused recordPlace p
-  unfolding recordAt
-  record-below h = rw (lt-leb headerLength p h)
+  record-below h = record-read-exactly s p .here .1 (inl h)
 
   pub record-past : headerLength ≤ p → length s < p → recordAt s p ≡ refused recordPlace p
-  unfolding recordAt
-  record-past l h = rw (le-leb headerLength p l, lt-leb p (length s) h)
+  record-past l h = record-read-exactly s p .here .1 (inr h)
+
+  -- the order behind 17
+  abbrev Behind : Type 0
+  Behind =
+      Exactly (given end) (p ≡ length s)
+      (Exactly (refused shortRecord p) (length s - p < recordLength) (NumbersOrder (length s - p) p (numbersAt s p)))
+      (recordAt s p)
+
+  placed : headerLength ≤ p → p ≤ length s → Behind
+  placed l h = record-read-exactly s p .otherwise not-outside
+    where
+      not-outside : (p < headerLength) ⊎ (length s < p) → ⊥
+      not-outside (inl i) = omega arith
+      not-outside (inr i) = omega arith
 
   pub record-end : headerLength ≤ p → p ≡ length s → recordAt s p ≡ given end
-  unfolding recordAt
-  record-end l e =
-      let h : p ≤ length s = omega arith in
-      rw (le-leb headerLength p l, le-leb p (length s) h, eq-eqb p (length s) e)
+  record-end l e = placed l (omega arith) .here .1 e
 
   pub record-short : headerLength ≤ p → p < length s → length s - p < recordLength → recordAt s p ≡ refused shortRecord p
-  unfolding recordAt
-  record-short l h few =
-      let i : p ≤ length s = omega arith in
-      let other : p ≡ length s → ⊥ = λ e. omega arith in
-      rw (le-leb headerLength p l, le-leb p (length s) i, ne-eqb p (length s) other, lt-leb recordLength (length s - p) few)
+  record-short l h few = placed l (omega arith) .otherwise (λ e. omega arith) .here .1 few
 
   pub record-judged : headerLength ≤ p → p < length s → recordLength ≤ length s - p
       → recordAt s p ≡ recordJudged (length s - p) p (numbersAt s p)
@@ -44,17 +53,14 @@ module _ (s : List ℕ) (p : ℕ) where
 
 module _ (left p : ℕ) (n : Numbers) where
   pub judged-above : n .original < n .included → recordJudged left p n ≡ refused includedLength (p + 4)
-  unfolding recordJudged
-  judged-above h = rw (lt-leb (n .included) (n .original) h)
+  judged-above h = record-judged-exactly left p n .here .1 h
 
   pub judged-past : n .included ≤ n .original → left < recordLength + n .included → recordJudged left p n ≡ refused shortPacket p
-  unfolding recordJudged
-  judged-past h few = rw (le-leb (n .included) (n .original) h, lt-leb (recordLength + n .included) left few)
+  judged-past h few = record-judged-exactly left p n .otherwise (λ e. omega arith) .here .1 few
 
   pub judged-whole : n .included ≤ n .original → recordLength + n .included ≤ left
       → recordJudged left p n ≡ given (whole n (p + recordLength) (p + recordLength + n .included))
-  unfolding recordJudged
-  judged-whole h enough = rw (le-leb (n .included) (n .original) h, le-leb (recordLength + n .included) left enough)
+  judged-whole h enough = record-judged-exactly left p n .otherwise (λ e. omega arith) .otherwise (λ e. omega arith)
 
 -- past the input's end every octet is 0, wherever it is
 octets-past : (s : List ℕ) (p q after n : ℕ) → length s ≤ p → length s ≤ q → octetsAfter s p after n ≡ octetsAfter s q after n

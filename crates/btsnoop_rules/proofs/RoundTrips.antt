@@ -18,16 +18,19 @@ use Rattle.octets.proofs.Laws.{octets-take, octets-drop}
 use Rattle.octets.proofs.PartLaws.{length-part}
 use Rattle.octets.proofs.Signs.{twos-complement}
 use Rattle.octets.proofs.Fields.{length-octetsOf, octets-front, number-back, number-read}
-use Rattle.tiling.specs.Tiling.{Placed}
-use Rattle.record_rules.specs.Outputs.{valuesOf, lengthOf, joined, splicing}
+use Rattle.tiling.specs.Tiling.{Placed, items}
+use Rattle.record_rules.specs.Outputs.{valuesOf, placedFrom, lengthOf, joined, splicing}
 use Rattle.record_rules.proofs.Splices.{file-spliced}
-use Rattle.record_rules.proofs.Joining.{length-joined, joined-read, joined-back}
+use Rattle.record_rules.proofs.Joining.{length-joined, length-placed, joined-read, joined-back}
 use Rattle.btsnoop_rules.specs.declared.Numbers.{Numbers}
 use Rattle.btsnoop_rules.specs.Header.{headerLength, identificationOctets, versionNumber, served, sameOctets, headerJudged, headerAt}
 use Rattle.btsnoop_rules.specs.Record.{recordLength, numbersAt, Record, WholeAt}
 use Rattle.btsnoop_rules.specs.Writing.{headerOctets, headerWriting, headerWritten, recordOctets, recordWriting, recordWritten}
-use Rattle.btsnoop_rules.specs.Claims.{Representable, writeHeader, writeRecord, recordSize, WriteThenRead, RewriteAccepted}
-use Rattle.btsnoop_rules.proofs.HeaderLaws.{same→eq, header-long}
+use Rattle.btsnoop_rules.specs.File.{fileWalk}
+use Rattle.btsnoop_rules.specs.Claims.{Filled, Representable, writeHeader, writeRecord, recordSize, WriteThenRead, Rewritten, RewriteAccepted}
+use Rattle.btsnoop_rules.proofs.Orders.{same→eq}
+use Rattle.btsnoop_rules.proofs.HeaderLaws.{header-long}
+use Rattle.btsnoop_rules.proofs.Files.{accepted-exactly, walk-meets}
 
 -- the octets of a record, as they are written
 abbrev written : Record → List ℕ
@@ -164,21 +167,25 @@ write-then-read out at code rs d f room =
     file-spliced writeRecord written Representable record-spliced out at (writeHeader out at code) (headerOctets code) rs
     (headerLength + lengthOf recordSize rs) (header-spliced out at code d (omega arith)) f size room in
     let rest : drop headerLength xs ≡ joined written rs = drop-at (headerOctets code) (joined written rs) headerLength head in
+    let placed : List (Placed Record) = placedFrom recordSize headerLength rs in
+    let filled : Filled xs code placed =
+    record {
+      header = header-read code (joined written rs) d;
+      records =
+          joined-read xs headerLength (WholeAt xs) written recordSize Representable length-written (record-read xs)
+          headerLength rs (omega arith) (omega arith) f rest;
+    } in
     record {
       written = w .0;
-      reads =
-          rw (w .1)
-          (record {
-            header = header-read code (joined written rs) d;
-            records =
-                joined-read xs headerLength (WholeAt xs) written recordSize Representable length-written (record-read xs)
-                headerLength rs (omega arith) (omega arith) f rest;
-          });
+      filled = rw (w .1) filled;
+      accepted = rw (w .1, ← length-placed recordSize headerLength rs) (accepted-exactly xs .accepted code placed filled);
+      met = rw (w .1) (walk-meets xs code placed filled);
     }
 
--- rewriting an accepted file gives its own octets, and all its records can be written
-pub rewrite-accepted : RewriteAccepted
-rewrite-accepted s out at code xs o f room =
+-- rewriting a file of a header and records gives its own octets, and all its records can be written
+rewrite-filled : (s out : List ℕ) (at code : ℕ) (xs : List (Placed Record)) → Octets s → Filled s code xs
+    → at + length s ≤ length out → Rewritten s out at code (valuesOf xs)
+rewrite-filled s out at code xs o f room =
     let head = header-back s code o (f .header) in
     let tail = joined-back s headerLength (WholeAt s) written recordSize Representable (record-back s o) (f .records) in
     let same : headerOctets code ++ joined written (valuesOf xs) ≡ s =
@@ -190,3 +197,10 @@ rewrite-accepted s out at code xs o f room =
     file-spliced writeRecord written Representable record-spliced out at (writeHeader out at code) (headerOctets code) (valuesOf xs)
     (length s) (header-spliced out at code (head .1) (omega arith)) (tail .1) (ap length same) room in
     record { representable = tail .1; written = w .0; same = w .1 ∙ same }
+
+-- rewriting an accepted file gives its own octets
+pub rewrite-accepted : RewriteAccepted
+rewrite-accepted s out at file o e room =
+    let found = accepted-exactly s .filled file e in
+    let met = walk-meets s (file .datalink) (found .0) (found .1) in
+    rw (met .passed) (rewrite-filled s out at (file .datalink) (found .0) o (found .1) room)

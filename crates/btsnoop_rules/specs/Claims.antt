@@ -6,10 +6,10 @@ use mathlib.Core.Bool.{true}
 use mathlib.Core.List.{List, [], _∷_}
 use lib.ListN.{length, take, drop}
 use lib.Signed.{mag}
-use Rattle.refusals.specs.Refusals.{Answer, refused, given}
+use Rattle.refusals.specs.Refusals.{Answer, refused, given, recordPlace}
 use Rattle.octets.specs.Numbers.{Octets}
 use Rattle.octets.specs.Parts.{part}
-use Rattle.tiling.specs.Tiling.{Next, Placed, ended, walk, items, ending, Tiles}
+use Rattle.tiling.specs.Tiling.{Next, Placed, ended, broken, walk, items, ending, Tiles}
 use Rattle.tiling.specs.Claims.{Reached, Final, inTurn, sum}
 use Rattle.record_rules.specs.Outputs.{All, valuesOf, placedFrom, lengthOf, Output, writeAll, WrittenAt}
 use Rattle.btsnoop_rules.specs.Header.{headerLength, served, headerAt}
@@ -90,24 +90,32 @@ writeFile out at code rs = writeAll writeRecord (writeHeader out at code) rs
 abbrev pub recordSize : Record → ℕ
 recordSize r = recordLength + length (r .packet)
 
--- given room, writing a header and any representable records, and then reading, returns them
+-- the octets of the file so written
+abbrev pub writtenFile : List ℕ → (at code : ℕ) → List Record → List ℕ
+writtenFile out at code rs = part (writeFile out at code rs .octets) at (headerLength + lengthOf recordSize rs)
+
+-- given room, writing a header and any representable records, and then reading, returns them: the octets written are a
+-- header and whole records; the check accepts them with the code and the count; the walk meets the records
 pub record WriteRead (out : List ℕ) (at code : ℕ) (rs : List Record) : Type 0 where
   pub written : WrittenAt out at (headerLength + lengthOf recordSize rs) (writeFile out at code rs)
-  pub reads : Filled (part (writeFile out at code rs .octets) at (headerLength + lengthOf recordSize rs)) code (placedFrom recordSize headerLength rs)
+  pub filled : Filled (writtenFile out at code rs) code (placedFrom recordSize headerLength rs)
+  pub accepted : fileAt (writtenFile out at code rs) ≡ given (record { datalink = code; records = length rs })
+  pub met : FileMet (writtenFile out at code rs) (placedFrom recordSize headerLength rs)
 
 abbrev pub WriteThenRead : Type 0
 WriteThenRead = (out : List ℕ) (at code : ℕ) (rs : List Record) → served code ≡ true → AllRepresentable rs
     → at + (headerLength + lengthOf recordSize rs) ≤ length out → WriteRead out at code rs
 
--- rewriting an accepted file gives its own octets, and all its records can be written
-pub record Rewritten (s out : List ℕ) (at code : ℕ) (xs : List (Placed Record)) : Type 0 where
-  pub representable : AllRepresentable (valuesOf xs)
-  pub written : WrittenAt out at (length s) (writeFile out at code (valuesOf xs))
-  pub same : part (writeFile out at code (valuesOf xs) .octets) at (length s) ≡ s
+-- these records can be written, and rewriting a file from them gives its own octets
+pub record Rewritten (s out : List ℕ) (at code : ℕ) (rs : List Record) : Type 0 where
+  pub representable : AllRepresentable rs
+  pub written : WrittenAt out at (length s) (writeFile out at code rs)
+  pub same : part (writeFile out at code rs .octets) at (length s) ≡ s
 
+-- rewriting an accepted file, from its code and the records that its walk passes, gives its own octets
 abbrev pub RewriteAccepted : Type 0
-RewriteAccepted = (s out : List ℕ) (at code : ℕ) (xs : List (Placed Record)) → Octets s → Filled s code xs
-    → at + length s ≤ length out → Rewritten s out at code xs
+RewriteAccepted = (s out : List ℕ) (at : ℕ) (file : File) → Octets s → fileAt s ≡ given file → at + length s ≤ length out
+    → Rewritten s out at (file .datalink) (valuesOf (items (fileWalk s)))
 
 -- surveys one after another, each from the place the last reached and none refused before the last, end as one survey
 -- with the summed number does; a refusal ends them
@@ -127,6 +135,14 @@ SurveyCountsPassed = (s : List ℕ) (p n : ℕ) → headerLength ≤ p → p ≤
 abbrev pub NeverMore : Type 0
 NeverMore = (s : List ℕ) (p : ℕ) → headerLength ≤ p → p ≤ length s → Final (surveyAt s p (length s) .ending)
 
--- nor does the walk behind a valid header, so that check and listing never give 17
+-- nor does the walk behind a valid header
 abbrev pub WalkNeverMore : Type 0
 WalkNeverMore = (s : List ℕ) (code : ℕ) → headerAt s ≡ given code → Final (ending (fileWalk s))
+
+-- and that walk never gives 17; so neither does the listing, which shows how it ends
+abbrev pub WalkNever17 : Type 0
+WalkNever17 = (s : List ℕ) (code q : ℕ) → headerAt s ≡ given code → ending (fileWalk s) ≡ broken recordPlace q → ⊥
+
+-- the check of a file never gives 17
+abbrev pub CheckNever17 : Type 0
+CheckNever17 = (s : List ℕ) (q : ℕ) → fileAt s ≡ refused recordPlace q → ⊥

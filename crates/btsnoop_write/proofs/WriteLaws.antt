@@ -6,7 +6,6 @@ use mathlib.Core.Bool.{true, false}
 use mathlib.Core.List.{List, _++_, append-assoc}
 use lib.ListN.{length, length-append}
 use lib.IntN.{ℤ}
-use borrow.Author.Tests.{le-leb, lt-leb}
 use native.Mathlib.Omega.{arith}
 use Rattle.refusals.specs.Refusals.{Answer, refused, given, datalink, includedLength, noRoom, afterWrite}
 use Rattle.octets.specs.Numbers.{big, octetsOf}
@@ -17,6 +16,7 @@ use Rattle.octets.proofs.PartLaws.{put-room, splice-next, put-next}
 use Rattle.btsnoop_rules.specs.Header.{headerLength, served}
 use Rattle.btsnoop_rules.specs.Record.{recordLength}
 use Rattle.btsnoop_rules.specs.Writing.{headerOctets, headerWriting, headerWritten, recordOctets, recordWriting, recordWritten}
+use Rattle.btsnoop_rules.proofs.Orders.{header-writing-exactly, record-writing-exactly}
 
 module _ (out : List ℕ) (at n : ℕ) (xs : List ℕ) (long : length xs ≡ n) where
   -- a number put behind octets
@@ -50,17 +50,19 @@ module _ (out : List ℕ) (at code : ℕ) where
   header-outcome answer e = (e, ap (λ (x : Answer ℕ). afterWrite x out (splice out at (headerOctets code))) e)
 
   pub header-datalink : served code ≡ false → HeaderOutcome (refused datalink 0)
-  unfolding headerWriting
-  header-datalink s = header-outcome (refused datalink 0) (rw s)
+  header-datalink s = header-outcome (refused datalink 0) (header-writing-exactly (length out) at code .here .1 s)
 
   module _ (s : served code ≡ true) where
+    is-served : served code ≡ false → ⊥
+    is-served e = let z : _≡_ {A = ℕ} 0 1 = cc in omega arith
+
     pub header-no-room : length out < at + headerLength → HeaderOutcome (refused noRoom 0)
-    unfolding headerWriting
-    header-no-room h = header-outcome (refused noRoom 0) (rw (s, lt-leb (at + headerLength) (length out) h))
+    header-no-room h = header-outcome (refused noRoom 0) (header-writing-exactly (length out) at code .otherwise is-served .here .1 h)
 
     pub header-given : at + headerLength ≤ length out → HeaderOutcome (given (at + headerLength))
-    unfolding headerWriting
-    header-given h = header-outcome (given (at + headerLength)) (rw (s, le-leb (at + headerLength) (length out) h))
+    header-given h =
+        header-outcome (given (at + headerLength))
+        (header-writing-exactly (length out) at code .otherwise is-served .otherwise (λ few. omega arith))
 
 -- the same of a record's write
 module _ (out : List ℕ) (at original flags drops : ℕ) (time : ℤ) (packet : List ℕ) where
@@ -76,8 +78,7 @@ module _ (out : List ℕ) (at original flags drops : ℕ) (time : ℤ) (packet :
       (e, ap (λ (x : Answer ℕ). afterWrite x out (splice out at (recordOctets original flags drops time packet))) e)
 
   pub record-included : original < length packet → RecordOutcome (refused includedLength 0)
-  unfolding recordWriting
-  record-included h = record-outcome (refused includedLength 0) (rw (lt-leb (length packet) original h))
+  record-included h = record-outcome (refused includedLength 0) (record-writing-exactly (length out) at original packet .here .1 h)
 
   -- the place after the record
   abbrev next : ℕ
@@ -85,13 +86,14 @@ module _ (out : List ℕ) (at original flags drops : ℕ) (time : ℤ) (packet :
 
   module _ (i : length packet ≤ original) where
     pub record-no-room : length out < next → RecordOutcome (refused noRoom 0)
-    unfolding recordWriting
     record-no-room h =
-        record-outcome (refused noRoom 0) (rw (le-leb (length packet) original i, lt-leb next (length out) h))
+        record-outcome (refused noRoom 0)
+        (record-writing-exactly (length out) at original packet .otherwise (λ above. omega arith) .here .1 h)
 
     pub record-given : next ≤ length out → RecordOutcome (given next)
-    unfolding recordWriting
-    record-given h = record-outcome (given next) (rw (le-leb (length packet) original i, le-leb next (length out) h))
+    record-given h =
+        record-outcome (given next)
+        (record-writing-exactly (length out) at original packet .otherwise (λ above. omega arith) .otherwise (λ few. omega arith))
 
   -- a record's lengths, its marks and its packet, each written behind the one before
   pub record-parts : {l m p : List ℕ} → next ≤ length out

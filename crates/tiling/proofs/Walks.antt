@@ -10,7 +10,7 @@ use borrow.Author.Tests.{le-leb, lt-leb}
 use native.Mathlib.Decide.{decLe}
 use Rattle.refusals.specs.Refusals.{Answer, refused, given, recordPlace}
 use Rattle.tiling.specs.Tiling.{Next, end, whole, Placed, Ending, ended, more, broken, stop, items, ending, used, onward, walk, Survey, surveyOf, survey, Tiles, none, one}
-use Rattle.tiling.specs.Claims.{Forward, Found, Reached, Final, then, inTurn, sum, CountIsPassed, NeverMore, SurveysAdd, TilesWalk}
+use Rattle.tiling.specs.Claims.{Forward, Found, EndsAt, Reached, Final, then, inTurn, sum, CountIsPassed, NeverMore, SurveysAdd, TilesWalk}
 
 -- an ending names a place that was reached
 abbrev Names : Ending → ℕ → Type 0
@@ -118,23 +118,30 @@ module _ {A : Type 0} (low high : ℕ) (step : ℕ → Answer (Next A)) where
             let after : p < q = fw .onward e in
             rest q (omega arith) (fw .inside e) (omega arith)
 
+    -- items end to end from a place inside lie inside
+    tiles-inside : {p q : ℕ} {xs : List (Placed A)} → Tiles (Found step) p xs q → low ≤ p → p ≤ high → (low ≤ q) × (q ≤ high)
+    tiles-inside none l h = (l, h)
+    tiles-inside (one e t) l h = let after = fw .onward e in tiles-inside t (omega arith) (fw .inside e)
+
     -- a place that a walk reached is one that a survey may start from
     reached-inside : (n p : ℕ) → low ≤ p → p ≤ high → (r : ℕ) → Names (ending (walk step n p)) r → (low ≤ r) × (r ≤ high)
-    reached-inside zero p l h r = go (step p)
+    reached-inside n p l h r = go (ending (walk step n p)) (w .ends)
       where
-        go : (x : Answer (Next A)) → Names (ending (used p x)) r → (low ≤ r) × (r ≤ high)
-        go (refused k q) e = omega arith
-        go (given end) e = omega arith
-        go (given (whole a q)) e = omega arith
-    reached-inside (suc n) p l h r = go (reached-inside n) (step p) refl
-      where
-        go : ((q : ℕ) → low ≤ q → q ≤ high → (r : ℕ) → Names (ending (walk step n q)) r → (low ≤ r) × (r ≤ high))
-            → (x : Answer (Next A)) → step p ≡ x → Names (ending (onward p (walk step n) x)) r → (low ≤ r) × (r ≤ high)
-        go rest (refused k q) e m = absurd m
-        go rest (given end) e m = omega arith
-        go rest (given (whole a q)) e m =
-            let after : p < q = fw .onward e in
-            rest q (omega arith) (fw .inside e) r m
+        w : Reached step p (walk step n p)
+        w = count-is-passed n p
+
+        go : (e : Ending) → EndsAt step e (w .place) → Names e r → (low ≤ r) × (r ≤ high)
+        go (ended q) e m = let i = tiles-inside (w .tiles) l h in omega arith
+        go (more q) e m = let i = tiles-inside (w .tiles) l h in omega arith
+        go (broken k q) e m = absurd m
+
+    -- a walk that is broken met its refusal at a place inside
+    pub broken-inside : (n p : ℕ) → low ≤ p → p ≤ high → (k q : ℕ) → ending (walk step n p) ≡ broken k q
+        → (r : ℕ) × (low ≤ r) × (r ≤ high) × (step r ≡ refused k q)
+    broken-inside n p l h k q e =
+        let w : Reached step p (walk step n p) = count-is-passed n p in
+        let i = tiles-inside (w .tiles) l h in
+        (w .place, i .0, i .1, rw e at (w .ends))
 
     -- surveys one after another end as one survey with the summed number does
     surveys-sum : (n : ℕ) (ms : List ℕ) (p : ℕ) → inTurn low high step n ms p ≡ survey low high step (sum n ms) p

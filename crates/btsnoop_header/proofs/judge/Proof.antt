@@ -1,18 +1,17 @@
 -- `btsnoop_header::judge` meets its contract: the case laws of the judgement, test by test; the identification octets compared as one number.
 -- Assumes nothing.
 use mathlib.Core.Path.{_≡_, sym, ap, _∙_}
-use mathlib.Core.Bool.{true}
 use denote.Ref.{now}
 use Rattle.refusals.specs.Refusals.{given}
 use Rattle.octets.specs.Numbers.{octetsAt}
-use Rattle.btsnoop_rules.specs.Header.{identificationOctets, sameOctets, served}
+use Rattle.btsnoop_rules.specs.Header.{identificationOctets, served}
 use Rattle.btsnoop_rules.proofs.HeaderLaws.{identified, not-identified, judged-other, judged-version, judged-datalink, judged-code}
 use borrow.Author.Needs.{needs}
 use Rattle.btsnoop_header.proofs.judge.Statement.{statement}
 use Rattle.btsnoop_header.proofs.judge.Tie as tie
 
 -- past the first test the identification octets are the right ones
-same : (c : tie.Else1) → sameOctets (octetsAt (now (c .before .before .before .args .s)) 0 8) identificationOctets ≡ true
+same : (c : tie.Else1) → octetsAt (now (c .before .before .before .args .s)) 0 8 ≡ identificationOctets
 same c =
     identified (now (c .before .before .before .args .s)) (λ i. c .before .before .shared-slice-known .given i .fits)
     (sym (c .before .be64 .ensures) ∙ c .if1 .left)
