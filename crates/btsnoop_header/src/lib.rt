@@ -33,8 +33,8 @@ pub fn read(s: &[u8]) -> HeaderAnswer
     judge(s)
 }
 
-// Judges the 16 octets of a file header; an octet past the input's end counts as 0.
-pub fn judge(s: &[u8]) -> HeaderAnswer
+// Judges the 16 octets of a file header.
+fn judge(s: &[u8]) -> HeaderAnswer
     ensures { λ r. ⌜ headerSays r ≡ headerJudged (now (s .entry)) ⌝ }
 {
     if octets::be64(s, 0) != IDENTIFICATION_OCTETS {

@@ -42,19 +42,8 @@ pub fn read(s: &[u8], place: usize) -> RecordAnswer
     judge(left, place, numbers(s, place))
 }
 
-// The numbers in the 24 octets at a place; an octet past the input's end counts as 0.
-pub fn numbers(s: &[u8], place: usize) -> Numbers
-    ensures { λ r. ⌜ r ≡ numbersAt (now (s .entry)) place ⌝ }
-{
-    if s.len() < place {
-        numbers_inside(s, s.len())
-    } else {
-        numbers_inside(s, place)
-    }
-}
-
-// The same at a place that is not past the input's end.
-fn numbers_inside(s: &[u8], place: usize) -> Numbers
+// The numbers in the 24 octets at a place.
+fn numbers(s: &[u8], place: usize) -> Numbers
     requires { ⌜ place ≤ length (now s) ⌝ }
     ensures { λ r. ⌜ r ≡ numbersAt (now (s .entry)) place ⌝ }
 {

@@ -1,15 +1,14 @@
 -- Case laws of the record reader: one for each outcome.
 -- Assumes nothing.
-use Prim.Native.Nat.{ℕ, zero, suc, _+_, _-_, _≤_, _<_}
-use mathlib.Core.Path.{_≡_, refl, ap}
+use Prim.Native.Nat.{ℕ, _+_, _-_, _≤_, _<_}
+use mathlib.Core.Path.{_≡_}
 use mathlib.Core.Logic.{_⊎_, inl, inr}
 use mathlib.Core.List.{List}
-use lib.ListN.{length, List·getD-eq-default}
+use lib.ListN.{length}
 use borrow.Author.Tests.{le-leb, ne-eqb}
 use native.Mathlib.Omega.{arith}
 use Rattle.refusals.specs.Refusals.{refused, given, shortRecord, includedLength, shortPacket, recordPlace}
 use Rattle.refusals.specs.Orders.{Exactly}
-use Rattle.octets.specs.Numbers.{big, number, octetsAfter, numberAt}
 use Rattle.btsnoop_rules.specs.declared.Numbers.{Numbers}
 use Rattle.btsnoop_rules.specs.Header.{headerLength}
 use Rattle.btsnoop_rules.specs.Record.{recordLength, numbersAt, end, whole, recordJudged, recordAt}
@@ -61,22 +60,3 @@ module _ (left p : ℕ) (n : Numbers) where
   pub judged-whole : n .included ≤ n .original → recordLength + n .included ≤ left
       → recordJudged left p n ≡ given (whole n (p + recordLength) (p + recordLength + n .included))
   judged-whole h enough = record-judged-exactly left p n .otherwise (λ e. omega arith) .otherwise (λ e. omega arith)
-
--- past the input's end every octet is 0, wherever it is
-octets-past : (s : List ℕ) (p q after n : ℕ) → length s ≤ p → length s ≤ q → octetsAfter s p after n ≡ octetsAfter s q after n
-octets-past s p q after zero hp hq = refl
-octets-past s p q after (suc n) hp hq =
-    let ip : length s ≤ p + after = omega arith in
-    let iq : length s ≤ q + after = omega arith in
-    rw (List·getD-eq-default s 0 ip, List·getD-eq-default s 0 iq, octets-past s p q (suc after) n hp hq)
-
-number-past : (w : ℕ) (s : List ℕ) (p q : ℕ) → length s ≤ p → length s ≤ q → numberAt big w s p ≡ numberAt big w s q
-unfolding numberAt
-number-past w s p q hp hq = ap (number big) (octets-past s p q 0 w hp hq)
-
-pub numbers-past : (s : List ℕ) (p : ℕ) → length s ≤ p → numbersAt s p ≡ numbersAt s (length s)
-unfolding numbersAt
-numbers-past s p h =
-    let same : (w k : ℕ) → numberAt big w s (p + k) ≡ numberAt big w s (length s + k) =
-    λ w k. number-past w s (p + k) (length s + k) (omega arith) (omega arith) in
-    rw (number-past 4 s p (length s) h (omega arith), same 4 4, same 4 8, same 4 12, same 8 16)

@@ -1,27 +1,58 @@
--- `btsnoop_record::numbers` meets its contract: past the input's end the numbers are those at the end.
+-- `btsnoop_record::numbers` meets its contract: each number by the promise of its reader.
 -- Assumes nothing.
-use mathlib.Core.Path.{sym, _∙_}
-use denote.Ref.{now}
-use native.Mathlib.Omega.{arith}
-use Rattle.btsnoop_rules.proofs.RecordLaws.{numbers-past}
+use mir.Syntax.{w64}
+use mir.Facts.{toZ-ofZ}
+use Rattle.btsnoop_rules.specs.Record.{numbersAt}
 use borrow.Author.Needs.{needs}
 use Rattle.btsnoop_record.proofs.numbers.Statement.{statement}
 use Rattle.btsnoop_record.proofs.numbers.Tie as tie
 
-numbers-inside-requires : tie.Need-numbers-inside-requires
-numbers-inside-requires c κs = search needs
+be32-requires : tie.Need-be32-requires
+be32-requires c κs = search needs
 
-numbers-inside-requires-2 : tie.Need-numbers-inside-requires-2
-numbers-inside-requires-2 c κs = search needs
+add-be32 : tie.Need-add-be32
+add-be32 c = search needs
+
+be32-requires-2 : tie.Need-be32-requires-2
+be32-requires-2 c κs = search needs
+
+add-be32-2 : tie.Need-add-be32-2
+add-be32-2 c = search needs
+
+be32-requires-3 : tie.Need-be32-requires-3
+be32-requires-3 c κs = search needs
+
+add-be32-3 : tie.Need-add-be32-3
+add-be32-3 c = search needs
+
+be32-requires-4 : tie.Need-be32-requires-4
+be32-requires-4 c κs = search needs
+
+add-be64 : tie.Need-add-be64
+add-be64 c = search needs
+
+be64-requires : tie.Need-be64-requires
+be64-requires c κs = search needs
+
+signed64-requires : tie.Need-signed64-requires
+signed64-requires c κs = search needs
 
 returns : tie.Need-returns
-returns c =
-    let a = c .before .before .before .args in
-    c .numbers-inside .ensures ∙ sym (numbers-past (now (a .s)) (a .place) (omega arith))
-
-returns-2 : tie.Need-returns-2
-returns-2 c = search needs
+unfolding numbersAt
+returns c = cc (toZ-ofZ {w = w64} {z = c .signed64 .result} (record { sfits = c .signed64 .ok }))
 
 pub numbers-spec : {M : Type 1} → statement M
 numbers-spec =
-    tie.close (tie.spec numbers-inside-requires numbers-inside-requires-2 returns returns-2)
+    tie.close
+    (tie.spec
+    be32-requires
+    add-be32
+    be32-requires-2
+    add-be32-2
+    be32-requires-3
+    add-be32-3
+    be32-requires-4
+    add-be64
+    be64-requires
+    signed64-requires
+    returns)
