@@ -10,9 +10,9 @@ use native.Mathlib.Decide.{decLt}
 use lib.ListN.{length}
 use borrow.Author.Tests.{leb-true}
 use Rattle.radiotap_rules.specs.Rules.{Row, Rules, rowOf, knows, editionTaken}
-use Rattle.radiotap_rules.specs.Reading.{wordAt, bitAt, Meaning, nothing, unknownHere, field, meaning, Field, Ending, ended, stopped, Walk, refusedAt, shown, withField, onField, onMeaning, fieldsFrom, Reading, refusedBefore, refusedAtField, read, frameOf, readWalk, reading, noField, nth}
+use Rattle.radiotap_rules.specs.Reading.{wordAt, bitAt, rowNumber, Meaning, nothing, unknownHere, field, meaning, Field, Ending, ended, stopped, Walk, refusedAt, shown, withField, onField, onMeaning, fieldsFrom, Reading, refusedBefore, refusedAtField, read, frameOf, readWalk, reading, noField, nth}
 use Rattle.radiotap_rules.proofs.Walks.{fieldAt, on-field, by-meaning, by-walks}
-use Rattle.radiotap_rules.proofs.Nesting.{taken-served, knows-more}
+use Rattle.radiotap_rules.proofs.TableTests.{taken-served, knows-more, ours-pass}
 use Rattle.radiotap_rules.specs.Table.{ourRules}
 use Rattle.radiotap_rules.specs.Editions.{NotAfter, Shows, Agree, Demand3, OursAgree}
 
@@ -29,10 +29,10 @@ means : (rules : Rules) (older newer : ℕ) (words : List ℕ) (q : ℕ) → Gro
     → Means (meaning rules older words q) (meaning rules newer words q)
 means rules older newer words q grows =
     by-meaning words q (λ meaningIn. Means (meaningIn rules older) (meaningIn rules newer)) alike alike
-    (known (knows rules older (bitAt q)) (knows rules newer (bitAt q)) (grows (bitAt q)))
+    (known (knows rules older (rowNumber words q)) (knows rules newer (rowNumber words q)) (grows (rowNumber words q)))
   where
     known : (k k′ : Bool) → (k ≡ true → k′ ≡ true)
-        → Means (cond k (field (rowOf rules (bitAt q))) unknownHere) (cond k′ (field (rowOf rules (bitAt q))) unknownHere)
+        → Means (cond k (field (rowOf rules (rowNumber words q))) unknownHere) (cond k′ (field (rowOf rules (rowNumber words q))) unknownHere)
     known true true h = alike
     known true false h = let z : _≡_ {A = ℕ} 0 1 = cc (h refl) in absurd (omega arith)
     known false true h = newly
@@ -212,6 +212,6 @@ demand-3 rules older newer s ok nests servedOlder servedNewer l =
     grows : Grows rules o n
     grows k = knows-more rules o n k nests (leb-true n (rules .newest) (taken-served rules newer ok servedNewer .0)) l
 
--- demand 3 for the table of document 01, which passes both tests
+-- demand 3 for the table of document 01
 pub agree-ours : OursAgree
-agree-ours older newer s = demand-3 ourRules older newer s refl refl
+agree-ours older newer s = demand-3 ourRules older newer s (ours-pass .table) (ours-pass .nests)

@@ -13,8 +13,9 @@ use Rattle.radiotap_rules.specs.Rules.{Row, Rules, rowOf, tableOk, editi
 use Rattle.radiotap_rules.specs.Reading.{wordAt, bitAt, present, Meaning, nothing, unknownHere, field, meaning, aligned, Field, Ending, ended, stopped, Walk, refusedAt, shown, withField, onField, onMeaning, fieldsFrom, fieldsOf, readWalk}
 use Rattle.radiotap_rules.specs.Following.{position, NoneBetween, First, NextMultiple, Follows, Ends, Along, Past, Tells, FieldsFollow}
 use Rattle.radiotap_rules.proofs.Walks.{fieldAt, field-shown, field-refused, served-walk}
-use Rattle.radiotap_rules.proofs.Meanings.{MeansSo, means-so}
-use Rattle.radiotap_rules.proofs.Planning.{aligned-after, known-aligned}
+use Rattle.radiotap_rules.proofs.Meanings.{number-bit, MeansSo, means-so}
+use Rattle.radiotap_rules.proofs.TableTests.{known-aligned}
+use Rattle.radiotap_rules.proofs.Planning.{aligned-after}
 
 -- the place that an alignment gives is the next multiple of it
 next-multiple : (a at : ℕ) → 0 < a → NextMultiple a at (aligned a at)
@@ -107,7 +108,7 @@ module _ (rules : Rules) (edition : ℕ) (ok : tableOk rules ≡ true) (s ws : L
       }
   tells-field q at place follows inside (shown fs e) h = (follows, inside, rw (own-position ws q) h)
 
-  tells-meaning : (q at : ℕ) (rest : ℕ → Walk) (m : Meaning) → MeansSo rules edition ws q m
+  tells-meaning : (q at : ℕ) (rest : ℕ → Walk) (m : Meaning) → MeansSo rules edition ws q (bitAt q) m
       → ((at : ℕ) → WalkTells rules edition ws size (suc q) at (rest at))
       → WalkTells rules edition ws size q at (onMeaning s size q at rest m)
   tells-meaning q at rest nothing so h = tells-back q at so (rest at) (h at)
@@ -145,7 +146,8 @@ module _ (rules : Rules) (edition : ℕ) (ok : tableOk rules ≡ true) (s ws : L
       → WalkTells rules edition ws size q at (fieldsFrom rules edition s size ws left q at)
   walk-tells zero q at count = λ word bit l from to set. absurd (omega arith)
   walk-tells (suc left) q at count =
-      tells-meaning q at (fieldsFrom rules edition s size ws left (suc q)) (meaning rules edition ws q) (means-so rules edition ws q)
+      tells-meaning q at (fieldsFrom rules edition s size ws left (suc q)) (meaning rules edition ws q)
+      (subst (λ (n : ℕ). MeansSo rules edition ws q n (meaning rules edition ws q)) (number-bit ws q) (means-so rules edition ws q))
       (λ at. walk-tells left (suc q) at (omega arith))
 
   whole-tells : WalkTells rules edition ws size 0 (4 + 4 * length ws) (fieldsOf rules edition s size ws)

@@ -1,8 +1,8 @@
+pub mod TableTests
 pub mod Meanings
 pub mod Walks
 pub mod Words
 pub mod Steps
-pub mod Nesting
 pub mod Agreement
 pub mod Tables
 pub mod Places

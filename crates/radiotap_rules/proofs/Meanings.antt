@@ -1,28 +1,41 @@
 -- What each position means, by its bit: one law for each case, and all of them together.
 -- Assumes nothing.
-use Prim.Native.Nat.{ℕ, _≤_}
+use Prim.Native.Nat.{ℕ, _≤_, _<_}
 use mathlib.Core.Path.{_≡_, refl, sym, _∙_, subst}
 use mathlib.Core.Bool.{Bool, true, false, cond}
 use mathlib.Core.Logic.{_⊎_, inl, inr}
-use mathlib.Core.List.{List}
+use mathlib.Core.List.{List, [], _∷_}
 use native.Mathlib.Omega.{arith}
+use native.Mathlib.Nat.{div-eq-of-lt, mod-eq-of-lt}
 use native.Mathlib.Decide.{ℕ-discrete}
 use lib.ListN.{getD}
 use borrow.Author.Tests.{ne-eqb}
 use Rattle.radiotap_rules.specs.Rules.{Rules, rowOf, knows}
-use Rattle.radiotap_rules.specs.Reading.{bitSet, wordAt, bitAt, present, Meaning, nothing, unknownHere, field, meaning}
+use Rattle.radiotap_rules.specs.Reading.{bitSet, wordBits, wordAt, bitAt, rowNumber, present, Meaning, nothing, unknownHere, field, meaning}
+
+-- every word numbers its bits from 0 again
+pub number-bit : (words : List ℕ) (q : ℕ) → rowNumber words q ≡ bitAt q
+number-bit words q = refl
+
+-- a position of the one presence word is its bit: it has the row of that number, and is present where the bit is set
+module _ (word q : ℕ) (l : q < wordBits) where
+  pub number-alone : rowNumber (word ∷ []) q ≡ q
+  number-alone = number-bit (word ∷ []) q ∙ mod-eq-of-lt l
+
+  pub present-alone : present (word ∷ []) q ≡ bitSet word q
+  present-alone = rw (div-eq-of-lt l, mod-eq-of-lt l)
 
 both : (t : Bool) → cond t nothing nothing ≡ nothing
 both true = refl
 both false = refl
 
--- what is known of a position that means something
-abbrev pub MeansSo : Rules → (edition : ℕ) → (words : List ℕ) → ℕ → Meaning → Type 0
-MeansSo rules edition words q nothing = present words q ≡ true → (bitAt q ≡ 29) ⊎ (bitAt q ≡ 31)
-MeansSo rules edition words q unknownHere =
-    (present words q ≡ true) × ((bitAt q ≡ 30) ⊎ ((bitAt q ≤ 28) × (knows rules edition (bitAt q) ≡ false)))
-MeansSo rules edition words q (field r) =
-    (present words q ≡ true) × (bitAt q ≤ 28) × (knows rules edition (bitAt q) ≡ true) × (r ≡ rowOf rules (bitAt q))
+-- what is known of a position that means something, where its row has this number
+abbrev pub MeansSo : Rules → (edition : ℕ) → (words : List ℕ) → (q n : ℕ) → Meaning → Type 0
+MeansSo rules edition words q n nothing = present words q ≡ true → (bitAt q ≡ 29) ⊎ (bitAt q ≡ 31)
+MeansSo rules edition words q n unknownHere =
+    (present words q ≡ true) × ((bitAt q ≡ 30) ⊎ ((bitAt q ≤ 28) × (knows rules edition n ≡ false)))
+MeansSo rules edition words q n (field r) =
+    (present words q ≡ true) × (bitAt q ≤ 28) × (knows rules edition n ≡ true) × (r ≡ rowOf rules n)
 
 module _ (rules : Rules) (edition : ℕ) (words : List ℕ) (q : ℕ) where
   -- a clear bit means nothing
@@ -44,7 +57,7 @@ module _ (rules : Rules) (edition : ℕ) (words : List ℕ) (q : ℕ) where
   module _ (set : present words q ≡ true) (low : bitAt q ≤ 28) where
     -- another set bit is what the edition knows of its field
     pub means-bit : meaning rules edition words q
-        ≡ cond (knows rules edition (bitAt q)) (field (rowOf rules (bitAt q))) unknownHere
+        ≡ cond (knows rules edition (rowNumber words q)) (field (rowOf rules (rowNumber words q))) unknownHere
     unfolding meaning
     means-bit =
         rw (
@@ -54,30 +67,33 @@ module _ (rules : Rules) (edition : ℕ) (words : List ℕ) (q : ℕ) where
           ne-eqb (bitAt q) 30 (λ e. omega arith),
         )
 
-    pub means-known : knows rules edition (bitAt q) ≡ true → meaning rules edition words q ≡ field (rowOf rules (bitAt q))
+    pub means-known : knows rules edition (rowNumber words q) ≡ true → meaning rules edition words q ≡ field (rowOf rules (rowNumber words q))
     means-known known = means-bit ∙ rw known
 
-    pub means-unknown : knows rules edition (bitAt q) ≡ false → meaning rules edition words q ≡ unknownHere
+    pub means-unknown : knows rules edition (rowNumber words q) ≡ false → meaning rules edition words q ≡ unknownHere
     means-unknown unknown = means-bit ∙ rw unknown
 
   -- what is known of a position by what it means
-  pub means-so : MeansSo rules edition words q (meaning rules edition words q)
+  abbrev Known : Meaning → Type 0
+  Known = MeansSo rules edition words q (rowNumber words q)
+
+  pub means-so : Known (meaning rules edition words q)
   means-so = on-present (present words q) refl
     where
-      known : (k : Bool) → knows rules edition (bitAt q) ≡ k → present words q ≡ true → bitAt q ≤ 28
-          → MeansSo rules edition words q (meaning rules edition words q)
-      known true e set low = subst (MeansSo rules edition words q) (sym (means-known set low e)) (set, low, e, refl)
-      known false e set low = subst (MeansSo rules edition words q) (sym (means-unknown set low e)) (set, inr (low, e))
+      known : (k : Bool) → knows rules edition (rowNumber words q) ≡ k → present words q ≡ true → bitAt q ≤ 28
+          → Known (meaning rules edition words q)
+      known true e set low = subst Known (sym (means-known set low e)) (set, low, e, refl)
+      known false e set low = subst Known (sym (means-unknown set low e)) (set, inr (low, e))
 
       on-bit : present words q ≡ true → Dec (bitAt q ≡ 29) → Dec (bitAt q ≡ 30) → Dec (bitAt q ≡ 31)
-          → MeansSo rules edition words q (meaning rules edition words q)
-      on-bit set (yes e) d d′ = subst (MeansSo rules edition words q) (sym (means-none (inl e))) (λ h. inl e)
-      on-bit set (no n) (yes e) d′ = subst (MeansSo rules edition words q) (sym (means-vendor set e)) (set, inl e)
-      on-bit set (no n) (no n′) (yes e) = subst (MeansSo rules edition words q) (sym (means-none (inr e))) (λ h. inr e)
-      on-bit set (no n) (no n′) (no n″) = known (knows rules edition (bitAt q)) refl set (omega arith)
+          → Known (meaning rules edition words q)
+      on-bit set (yes e) d d′ = subst Known (sym (means-none (inl e))) (λ h. inl e)
+      on-bit set (no n) (yes e) d′ = subst Known (sym (means-vendor set e)) (set, inl e)
+      on-bit set (no n) (no n′) (yes e) = subst Known (sym (means-none (inr e))) (λ h. inr e)
+      on-bit set (no n) (no n′) (no n″) = known (knows rules edition (rowNumber words q)) refl set (omega arith)
 
-      on-present : (t : Bool) → present words q ≡ t → MeansSo rules edition words q (meaning rules edition words q)
+      on-present : (t : Bool) → present words q ≡ t → Known (meaning rules edition words q)
       on-present true set = on-bit set (ℕ-discrete (bitAt q) 29) (ℕ-discrete (bitAt q) 30) (ℕ-discrete (bitAt q) 31)
       on-present false clear =
-          subst (MeansSo rules edition words q) (sym (means-clear clear))
+          subst Known (sym (means-clear clear))
           (λ set. let z : _≡_ {A = ℕ} 0 1 = cc in absurd (omega arith))

@@ -8,20 +8,21 @@ use mathlib.Core.List.{List, [], _∷_, _++_, append-nil}
 use native.Mathlib.Omega.{arith}
 use native.Mathlib.Nat.{suc-mul, mul-le-mul-right, div-mul-le-self}
 use native.Mathlib.Decide.{decLe}
-use lib.ListN.{length, getD, take, drop, length-append}
+use lib.ListN.{length}
 use lib.Dec.{ltb, eqb}
 use borrow.Author.Tests.{leb-true, ltb-true, eqb-true, ne-eqb}
 use Rattle.refusals.specs.Refusals.{Answer, given}
 use Rattle.refusals.proofs.Orders.{chosen}
 use Rattle.octets.specs.Parts.{part, splice, hasRoom}
 use Rattle.octets.proofs.PartLaws.{length-splice, splice-before, splice-behind, part-splice}
-use Rattle.radiotap_rules.specs.Rules.{Row, Rules, unknown, rowOf, alignmentOk, tableOk, editionTaken, served}
+use Rattle.radiotap_rules.specs.Rules.{Row, Rules, rowOf, everyRow, alignmentOk, tableOk, editionTaken, served}
 use Rattle.radiotap_rules.specs.Reading.{fixedLength, wordBits, Meaning, nothing, unknownHere, field, meaning, aligned, ended, reading, read}
 use Rattle.radiotap_rules.specs.Table.{ourRules}
 use Rattle.radiotap_rules.specs.Writing.{writable, Planned, withPlan, planFrom, plan, summed, laidFields, headerOctets, writing, written}
 use Rattle.radiotap_rules.specs.Rewriting.{Writable, lastEnd}
-use Rattle.radiotap_rules.specs.Outputs.{sizeWithin, sizesWithin, lengthFits, WrittenReadsBack, EveryTableReadsBack}
-use Rattle.radiotap_rules.proofs.Planning.{EachRow, known-from, known-alignment, each-planned, plan-aligned, length-laid, length-header}
+use Rattle.radiotap_rules.specs.Outputs.{sizeWithin, lengthFits, WrittenReadsBack, EveryTableReadsBack}
+use Rattle.radiotap_rules.proofs.TableTests.{every-row, known-some, known-alignment, ours-pass}
+use Rattle.radiotap_rules.proofs.Planning.{EachRow, each-planned, plan-aligned, length-laid, length-header}
 use Rattle.radiotap_rules.proofs.ReadBack.{read-back}
 
 -- an alignment that passes the test is at most 8
@@ -35,14 +36,6 @@ alignment-most a ok = go (decLe a 8)
         rw (ne-eqb a 1 (omega arith), ne-eqb a 2 (omega arith), ne-eqb a 4 (omega arith), ne-eqb a 8 (omega arith)) at ok in
         let z : _≡_ {A = ℕ} 0 1 = cc in
         absurd (omega arith)
-
--- a row that some edition knows is as long as the test says
-row-within : (most : ℕ) (rs : List Row) (n : ℕ) → sizesWithin most rs ≡ true → 1 ≤ getD rs n unknown .first
-    → getD rs n unknown .size ≤ most
-row-within most [] n ok h = absurd (omega arith)
-row-within most (r ∷ rs) zero ok h =
-    leb-true (r .size) most (rw (ne-eqb (r .first) 0 (omega arith)) at (and-eq-true-iff (sizeWithin most r) (sizesWithin most rs) .0 ok .0))
-row-within most (r ∷ rs) (suc n) ok h = row-within most rs n (and-eq-true-iff (sizeWithin most r) (sizesWithin most rs) .0 ok .1) h
 
 -- a row with an alignment of at most 8 and at most so many octets
 abbrev Small : (most : ℕ) → Row → Type 0
@@ -76,12 +69,12 @@ header-short : (rules : Rules) (most edition word : ℕ) (values : List ℕ) →
     → summed (plan rules edition word) ≤ length values → length (headerOctets rules edition word values) < 2 ^ 16
 header-short rules most edition word values ok fits long =
     let ps : List Planned = plan rules edition word in
-    let both = and-eq-true-iff (sizesWithin most (rules .rows)) (ltb (fixedLength + wordBits * (most + 7)) (2 ^ 16)) .0 fits in
+    let both = and-eq-true-iff (everyRow (sizeWithin most) (rules .rows)) (ltb (fixedLength + wordBits * (most + 7)) (2 ^ 16)) .0 fits in
     let small : EachRow (Small most) ps =
     each-planned rules edition word (Small most)
     (λ n known. (
       alignment-most (rowOf rules n .alignment) (known-alignment rules edition n ok known),
-      row-within most (rules .rows) n (both .0) (known-from rules edition n known .0),
+      leb-true _ _ (rw (known-some rules edition n known) at (every-row (sizeWithin most) refl (rules .rows) n (both .0))),
     )) in
     omega (
       arith,
@@ -155,4 +148,4 @@ every-table-reads-back rules most ok fits out at next edition reader word values
 
 -- so it is under the table of document 01, whose fields have at most 12 octets
 pub written-reads-back : WrittenReadsBack ourRules
-written-reads-back = every-table-reads-back ourRules 12 refl refl
+written-reads-back = every-table-reads-back ourRules 12 (ours-pass .table) refl

@@ -12,8 +12,9 @@ use Rattle.refusals.specs.Refusals.{Answer, refused, given}
 use Rattle.octets.specs.Parts.{part}
 use Rattle.octets.proofs.PartLaws.{length-part}
 use Rattle.radiotap_rules.specs.Rules.{Rules, rowOf, knows, editionTaken, served}
-use Rattle.radiotap_rules.specs.Reading.{fixedLength, lengthIn, fixedHeader, bitAt, Meaning, nothing, unknownHere, field, meaning, Field, Walk, refusedAt, shown, withField, onMeaning, fieldsFrom, Reading, refusedBefore, refusedAtField, read, readWalk, reading}
+use Rattle.radiotap_rules.specs.Reading.{fixedLength, lengthIn, fixedHeader, bitAt, rowNumber, Meaning, nothing, unknownHere, field, meaning, Field, Walk, refusedAt, shown, withField, onMeaning, fieldsFrom, Reading, refusedBefore, refusedAtField, read, readWalk, reading}
 use Rattle.radiotap_rules.specs.Fields.{Lies, AllLie, Inside, FieldsInside}
+use Rattle.radiotap_rules.proofs.Meanings.{number-bit}
 use Rattle.radiotap_rules.proofs.Walks.{fieldAt, on-field, by-meaning, by-walks}
 
 either : {A : Type 0} (P : A → Type 0) (t : Bool) (x y : A) → (t ≡ true → P x) → P y → P (cond t x y)
@@ -52,8 +53,10 @@ OwnRow rules n (field r) = r ≡ rowOf rules n
 
 own-row : (rules : Rules) (edition : ℕ) (words : List ℕ) (q : ℕ) → OwnRow rules (bitAt q) (meaning rules edition words q)
 own-row rules edition words q =
-    by-meaning words q (λ meaningIn. OwnRow rules (bitAt q) (meaningIn rules edition)) tt tt
-    (either (OwnRow rules (bitAt q)) (knows rules edition (bitAt q)) _ _ (λ k. refl) tt)
+    let n : ℕ = rowNumber words q in
+    subst (λ (n : ℕ). OwnRow rules n (meaning rules edition words q)) (number-bit words q)
+    (by-meaning words q (λ meaningIn. OwnRow rules n (meaningIn rules edition)) tt tt
+    (either (OwnRow rules n) (knows rules edition n) _ _ (λ k. refl) tt))
 
 none-lie : (rules : Rules) (s : List ℕ) (size : ℕ) → AllLie rules s size []
 none-lie rules s size k f e x = let z : _≡_ {A = ℕ} 0 1 = cc in absurd (omega arith)

@@ -1,21 +1,23 @@
 -- The fields of a presence word by its plan: where they lie, how long they are laid, and what a walk over the word shows.
 -- Assumes nothing.
 use Prim.Native.Nat.{ℕ, zero, suc, _+_, _-_, _≤_, _<_}
-use mathlib.Core.Path.{_≡_, refl}
-use mathlib.Core.Bool.{Bool, true, false, cond, _&&_, and-eq-true-iff, and-false}
+use mathlib.Core.Path.{_≡_, refl, _∙_}
+use mathlib.Core.Bool.{Bool, true, false, cond, _&&_, and-false}
 use mathlib.Core.List.{List, [], _∷_}
 use native.Mathlib.Omega.{arith}
-use native.Mathlib.Nat.{lt-div-mul-add, div-eq-of-lt, mod-eq-of-lt}
-use lib.ListN.{length, getD, take, drop, length-append, length-drop, length-replicate}
+use native.Mathlib.Nat.{lt-div-mul-add, div-eq-of-lt}
+use lib.ListN.{length, take, drop, length-append, length-drop, length-replicate}
 use lib.Seq.{length-take-le}
-use lib.Dec.{leb, ltb}
-use borrow.Author.Tests.{leb-true, leb-false, ne-eqb}
+use lib.Dec.{leb}
+use borrow.Author.Tests.{leb-true, leb-false}
 use Rattle.octets.specs.Numbers.{octetsOf}
 use Rattle.octets.specs.Parts.{part}
-use Rattle.radiotap_rules.specs.Rules.{Row, Rules, unknown, rowOf, knows, alignmentOk, rowOk, rowsOk, tableOk}
-use Rattle.radiotap_rules.specs.Reading.{fixedLength, bitSet, wordBits, wordAt, bitAt, present, Meaning, nothing, unknownHere, field, meaning, aligned, Field, ended, stopped, Walk, refusedAt, shown, withField, onMeaning, fieldsFrom, fieldsOf}
+use Rattle.radiotap_rules.specs.Rules.{Row, Rules, rowOf, knows, tableOk}
+use Rattle.radiotap_rules.specs.Reading.{fixedLength, bitSet, wordBits, wordAt, bitAt, rowNumber, Meaning, nothing, unknownHere, field, meaning, aligned, Field, ended, stopped, Walk, refusedAt, shown, withField, onMeaning, fieldsFrom, fieldsOf}
 use Rattle.radiotap_rules.specs.Writing.{isField, writableAt, writableFrom, writable, Planned, withPlan, planFrom, plan, summed, laid, headerOctets}
 use Rattle.radiotap_rules.specs.Rewriting.{lastEnd}
+use Rattle.radiotap_rules.proofs.TableTests.{known-aligned}
+use Rattle.radiotap_rules.proofs.Meanings.{present-alone, means-clear}
 use Rattle.radiotap_rules.proofs.Walks.{fieldAt, by-meaning}
 
 -- something holds of the row of every planned field
@@ -27,46 +29,9 @@ EachRow P (p ∷ ps) = P (p .row) × EachRow P ps
 abbrev pub Aligned : List Planned → Type 0
 Aligned = EachRow (λ r. 0 < r .alignment)
 
--- a row that some edition knows has an alignment that passes the test
-row-alignment : (newest : ℕ) (rs : List Row) (n : ℕ) → rowsOk newest rs ≡ true → 1 ≤ getD rs n unknown .first
-    → alignmentOk (getD rs n unknown .alignment) ≡ true
-row-alignment newest [] n ok h = absurd (omega arith)
-row-alignment newest (r ∷ rs) zero ok h = and-eq-true-iff _ _ .0 (and-eq-true-iff _ _ .0 passed .0) .0
-  where
-    passed : (alignmentOk (r .alignment) && ltb 0 (r .size) && leb (r .first) newest) ≡ true
-    passed = rw (ne-eqb (r .first) 0 (omega arith)) at (and-eq-true-iff (rowOk newest r) (rowsOk newest rs) .0 ok .0)
-row-alignment newest (r ∷ rs) (suc n) ok h =
-    row-alignment newest rs n (and-eq-true-iff (rowOk newest r) (rowsOk newest rs) .0 ok .1) h
-
 -- the next multiple of an alignment above 0 is not before the place
 pub aligned-after : (a at : ℕ) → 0 < a → at ≤ aligned a at
 aligned-after a at h = omega (arith, lt-div-mul-add {a = at + (a - 1)} {b = a} h)
-
--- an edition knows a field number from the first edition of its row on, which is not 0
-pub known-from : (rules : Rules) (edition n : ℕ) → knows rules edition n ≡ true
-    → (1 ≤ rowOf rules n .first) × (rowOf rules n .first ≤ edition)
-known-from rules edition n e =
-    let both = and-eq-true-iff (leb 1 (rowOf rules n .first)) (leb (rowOf rules n .first) edition) .0 e in
-    (leb-true _ _ (both .0), leb-true _ _ (both .1))
-
--- under a table that passes the test, a field that an edition knows has an alignment that does
-pub known-alignment : (rules : Rules) (edition n : ℕ) → tableOk rules ≡ true → knows rules edition n ≡ true
-    → alignmentOk (rowOf rules n .alignment) ≡ true
-known-alignment rules edition n ok known =
-    row-alignment (rules .newest) (rules .rows) n (first _ _ _ _ _ _ ok) (known-from rules edition n known .0)
-  where
-    first : (a b c d e f : Bool) → (a && b && c && d && e && f) ≡ true → a ≡ true
-    first true b c d e f h = refl
-    first false b c d e f h = h
-
--- so it is above 0
-pub known-aligned : (rules : Rules) (edition n : ℕ) → tableOk rules ≡ true → knows rules edition n ≡ true
-    → 0 < rowOf rules n .alignment
-known-aligned rules edition n ok known = go (rowOf rules n .alignment) (known-alignment rules edition n ok known)
-  where
-    go : (a : ℕ) → alignmentOk a ≡ true → 0 < a
-    go zero e = let z : _≡_ {A = ℕ} 0 1 = cc in absurd (omega arith)
-    go (suc a) e = omega arith
 
 module _ (rules : Rules) (edition word : ℕ) (P : Row → Type 0)
     (holds : (n : ℕ) → knows rules edition n ≡ true → P (rowOf rules n)) where
@@ -74,15 +39,15 @@ module _ (rules : Rules) (edition word : ℕ) (P : Row → Type 0)
   each-from zero q = tt
   each-from (suc left) q = go (planFrom rules edition word left (suc q)) (each-from left (suc q))
     where
-      known : (k : Bool) (ps : List Planned) → knows rules edition (bitAt q) ≡ k → EachRow P ps
-          → EachRow P (withPlan q (cond k (field (rowOf rules (bitAt q))) unknownHere) ps)
-      known true ps e rest = (holds (bitAt q) e, rest)
+      known : (k : Bool) (ps : List Planned) → knows rules edition (rowNumber (word ∷ []) q) ≡ k → EachRow P ps
+          → EachRow P (withPlan q (cond k (field (rowOf rules (rowNumber (word ∷ []) q))) unknownHere) ps)
+      known true ps e rest = (holds (rowNumber (word ∷ []) q) e, rest)
       known false ps e rest = rest
 
       go : (ps : List Planned) → EachRow P ps → EachRow P (withPlan q (meaning rules edition (word ∷ []) q) ps)
       go ps rest =
           by-meaning (word ∷ []) q (λ meaningIn. EachRow P (withPlan q (meaningIn rules edition) ps)) rest rest
-          (known (knows rules edition (bitAt q)) ps refl rest)
+          (known (knows rules edition (rowNumber (word ∷ []) q)) ps refl rest)
 
   -- what holds of the row of every field that an edition knows holds of every planned field's
   pub each-planned : EachRow P (plan rules edition word)
@@ -136,10 +101,7 @@ plannedFields s at (p ∷ ps) =
 -- a clear bit of the one presence word means nothing
 pub clear-nothing : (rules : Rules) (edition word q : ℕ) → q < wordBits → bitSet word q ≡ false
     → meaning rules edition (word ∷ []) q ≡ nothing
-unfolding meaning
-clear-nothing rules edition word q l clear =
-    let there : present (word ∷ []) q ≡ false = rw (div-eq-of-lt l, mod-eq-of-lt l, clear) in
-    rw there
+clear-nothing rules edition word q l clear = means-clear rules edition (word ∷ []) q (present-alone word q l ∙ clear)
 
 -- what a walk over the one presence word comes to: refused, the fields end past the length; shown to the end, they are the
 -- planned fields and end inside it; stopped, some set bit is no field that the edition knows

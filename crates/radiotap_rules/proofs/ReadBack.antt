@@ -15,11 +15,12 @@ use Rattle.octets.specs.Parts.{part}
 use Rattle.octets.proofs.Laws.{read-after-write}
 use Rattle.octets.proofs.Fields.{past}
 use Rattle.radiotap_rules.specs.Rules.{Rules, rowOf, knows, editionTaken}
-use Rattle.radiotap_rules.specs.Reading.{fixedLength, lengthIn, fixedHeader, bitSet, wordBits, wordsFrom, presenceWords, bitAt, nothing, unknownHere, field, meaning, aligned, Field, ended, stopped, Walk, refusedAt, shown, onMeaning, fieldsFrom, fieldsOf, readWalk, readWords, readFixed, reading}
+use Rattle.radiotap_rules.specs.Reading.{fixedLength, lengthIn, fixedHeader, bitSet, wordBits, wordsFrom, presenceWords, rowNumber, nothing, unknownHere, field, meaning, aligned, Field, ended, stopped, Walk, refusedAt, shown, onMeaning, fieldsFrom, fieldsOf, readWalk, readWords, readFixed, reading}
 use Rattle.radiotap_rules.specs.Writing.{isField, writableAt, writableFrom, writable, Planned, plan, summed, laid, laidFields, headerOctets}
 use Rattle.radiotap_rules.specs.Rewriting.{lastEnd, ReadBack}
 use Rattle.radiotap_rules.proofs.Walks.{by-meaning}
-use Rattle.radiotap_rules.proofs.Planning.{Aligned, aligned-after, known-from, plan-aligned, length-laid, plannedFields, clear-nothing, WalkedTo, walked}
+use Rattle.radiotap_rules.proofs.TableTests.{known-from}
+use Rattle.radiotap_rules.proofs.Planning.{Aligned, aligned-after, plan-aligned, length-laid, plannedFields, clear-nothing, WalkedTo, walked}
 
 module _ (rules : Rules) (edition reader : ℕ) (later : edition ≤ reader) (word : ℕ) where
   -- what can be written in an edition means the same in a later one
@@ -27,19 +28,19 @@ module _ (rules : Rules) (edition reader : ℕ) (later : edition ≤ reader) (wo
       → meaning rules edition (word ∷ []) q ≡ meaning rules reader (word ∷ []) q
   later-meaning q inside = go (bitSet word q) refl
     where
-      known : (k : Bool) → knows rules edition (bitAt q) ≡ k → isField (cond k (field (rowOf rules (bitAt q))) unknownHere) ≡ true
-          → cond k (field (rowOf rules (bitAt q))) unknownHere
-          ≡ cond (knows rules reader (bitAt q)) (field (rowOf rules (bitAt q))) unknownHere
+      known : (k : Bool) → knows rules edition (rowNumber (word ∷ []) q) ≡ k → isField (cond k (field (rowOf rules (rowNumber (word ∷ []) q))) unknownHere) ≡ true
+          → cond k (field (rowOf rules (rowNumber (word ∷ []) q))) unknownHere
+          ≡ cond (knows rules reader (rowNumber (word ∷ []) q)) (field (rowOf rules (rowNumber (word ∷ []) q))) unknownHere
       known true e h =
-          let from = known-from rules edition (bitAt q) e in
-          rw (le-leb 1 (rowOf rules (bitAt q) .first) (from .0), le-leb (rowOf rules (bitAt q) .first) reader (omega arith))
+          let from = known-from rules edition (rowNumber (word ∷ []) q) e in
+          rw (le-leb 1 (rowOf rules (rowNumber (word ∷ []) q) .first) (from .0), le-leb (rowOf rules (rowNumber (word ∷ []) q) .first) reader (omega arith))
       known false e h = let z : _≡_ {A = ℕ} 0 1 = cc in absurd (omega arith)
 
       go : (t : Bool) → bitSet word q ≡ t → cond t (isField (meaning rules edition (word ∷ []) q)) true ≡ true
           → meaning rules edition (word ∷ []) q ≡ meaning rules reader (word ∷ []) q
       go true e =
           by-meaning (word ∷ []) q (λ meaningIn. isField (meaningIn rules edition) ≡ true → meaningIn rules edition ≡ meaningIn rules reader)
-          (λ h. refl) (λ h. refl) (known (knows rules edition (bitAt q)) refl)
+          (λ h. refl) (λ h. refl) (known (knows rules edition (rowNumber (word ∷ []) q)) refl)
       go false e = λ h. clear-nothing rules edition word q inside e ∙ sym (clear-nothing rules reader word q inside e)
 
   -- so a later edition walks over it alike

@@ -24,7 +24,7 @@ use Rattle.radiotap_rules.specs.Rewriting.{Writable, joined, lastEnd, en
 use Rattle.radiotap_rules.proofs.Walks.{read-served, read-shown}
 use Rattle.radiotap_rules.proofs.Words.{words-at, last-calls-none}
 use Rattle.radiotap_rules.proofs.Unstopped.{walk-writable}
-use Rattle.radiotap_rules.proofs.Nesting.{taken-served}
+use Rattle.radiotap_rules.proofs.TableTests.{taken-served}
 use Rattle.radiotap_rules.proofs.Places.{length-told}
 use Rattle.radiotap_rules.proofs.Planning.{Aligned, aligned-after, plan-aligned, end-after, length-laid, length-header, plannedFields, WalkedTo, walked}
 

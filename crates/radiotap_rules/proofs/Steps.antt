@@ -14,7 +14,7 @@ use Rattle.octets.specs.Parts.{part}
 use Rattle.radiotap_rules.specs.declared.Head.{Head}
 use Rattle.radiotap_rules.specs.declared.Cursor.{Cursor}
 use Rattle.radiotap_rules.specs.Rules.{Rules, editionTaken, served}
-use Rattle.radiotap_rules.specs.Reading.{fieldPast, fixedHeader, presenceWords, wordBits, wordAt, bitAt, Meaning, nothing, unknownHere, field, meaning, aligned, Field, Ending, Walk, refusedAt, shown, withField, onMeaning, fieldsFrom, fieldsOf, readWalk, reading, nth}
+use Rattle.radiotap_rules.specs.Reading.{fieldPast, fixedHeader, presenceWords, wordBits, wordAt, bitAt, rowNumber, Meaning, nothing, unknownHere, field, meaning, aligned, Field, Ending, Walk, refusedAt, shown, withField, onMeaning, fieldsFrom, fieldsOf, readWalk, reading, nth}
 use Rattle.radiotap_rules.specs.Steps.{headOfWords, headOfFixed, headAt, firstCursor, Met, refusedStep, over, met, movedTo, metMeaning, metFrom, stepOf, onwardFrom, stepped, shownBy, ChainedSteps}
 use Rattle.radiotap_rules.proofs.Meanings.{MeansSo, means-so}
 use Rattle.radiotap_rules.proofs.Walks.{fieldAt, served-walk, read-shown}
@@ -111,7 +111,7 @@ module _ (rules : Rules) (edition : ℕ) (s : List ℕ) (c : Cursor) (words : Li
           ap (λ (n : ℕ). withField (fieldAt s q place (r .size)) (fieldsFrom rules edition s (c .size) words n (suc q) next)) same
       go false = record { word = wordAt q; bit = bitAt q; refusal = refl; twelve = refl }
 
-  moves-meaning : (left q : ℕ) (m : Meaning) → MeansSo rules edition words q m → Moves s c words left (suc q) (metFrom rules edition s c words left (suc q))
+  moves-meaning : (left q : ℕ) (m : Meaning) → MeansSo rules edition words q (rowNumber words q) m → Moves s c words left (suc q) (metFrom rules edition s c words left (suc q))
       → Moves s c words (suc left) q (metMeaning s c words q (metFrom rules edition s c words left (suc q)) m)
   moves-meaning left q nothing so h = moves-past left q (metFrom rules edition s c words left (suc q)) h
   moves-meaning left q unknownHere so h = tt

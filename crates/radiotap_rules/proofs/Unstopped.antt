@@ -1,16 +1,16 @@
 -- A presence word over which a walk ends without a stop can be written: each set bit is a field that the edition knows.
 -- Assumes nothing.
 use Prim.Native.Nat.{ℕ, zero, suc, _+_, _<_}
-use mathlib.Core.Path.{_≡_, refl, sym, ap, subst}
-use mathlib.Core.Bool.{Bool, true, false, cond, _||_}
+use mathlib.Core.Path.{_≡_, refl, sym, ap, _∙_, subst}
+use mathlib.Core.Bool.{Bool, true, false, cond}
+use mathlib.Core.Logic.{_⊎_, inl, inr}
 use mathlib.Core.List.{List, [], _∷_}
 use native.Mathlib.Omega.{arith}
-use native.Mathlib.Nat.{div-eq-of-lt, mod-eq-of-lt}
-use lib.Dec.{eqb}
-use borrow.Author.Tests.{eqb-true}
-use Rattle.radiotap_rules.specs.Rules.{Rules, rowOf, knows}
-use Rattle.radiotap_rules.specs.Reading.{fixedLength, bitSet, wordBits, present, Meaning, nothing, unknownHere, field, meaning, Field, ended, stopped, Walk, refusedAt, shown, withField, onMeaning, fieldsFrom, fieldsOf}
+use native.Mathlib.Nat.{mod-eq-of-lt}
+use Rattle.radiotap_rules.specs.Rules.{Rules}
+use Rattle.radiotap_rules.specs.Reading.{fixedLength, bitSet, wordBits, bitAt, rowNumber, Meaning, nothing, unknownHere, field, meaning, Field, ended, stopped, Walk, refusedAt, shown, withField, onMeaning, fieldsFrom, fieldsOf}
 use Rattle.radiotap_rules.specs.Writing.{isField, writableAt, writableFrom, writable}
+use Rattle.radiotap_rules.proofs.Meanings.{present-alone, MeansSo, means-so}
 use Rattle.radiotap_rules.proofs.Walks.{fieldAt, on-field}
 
 -- a walk that ends without a stop or a refusal
@@ -27,25 +27,20 @@ unstopped-behind f (shown fs (stopped w b)) h = h
 module _ (rules : Rules) (edition : ℕ) (s : List ℕ) (size word : ℕ) (clear29 : bitSet word 29 ≡ false) (clear31 : bitSet word 31 ≡ false) where
   -- a set bit means something
   set-something : (q : ℕ) → q < wordBits → bitSet word q ≡ true → meaning rules edition (word ∷ []) q ≡ nothing → ⊥
-  unfolding meaning
-  set-something q inside set =
-      let there : present (word ∷ []) q ≡ true = rw (div-eq-of-lt inside, mod-eq-of-lt inside, set) in
-      rw (there, mod-eq-of-lt inside)
-      (go (eqb q 29) refl (eqb q 31) refl (eqb q 30) (knows rules edition q))
+  set-something q inside set e =
+      go
+      (subst (MeansSo rules edition (word ∷ []) q (rowNumber (word ∷ []) q)) e (means-so rules edition (word ∷ []) q)
+      (present-alone word q inside ∙ set))
     where
-      clear : (n : ℕ) → eqb q n ≡ true → bitSet word n ≡ false → ⊥
-      clear n e unset =
-          let same : q ≡ n = eqb-true q n e in
-          let z : _≡_ {A = ℕ} 0 1 = cc (set, unset, ap (bitSet word) same) in
+      clear : (n : ℕ) → bitAt q ≡ n → bitSet word n ≡ false → ⊥
+      clear n same unset =
+          let there : q ≡ n = sym (mod-eq-of-lt inside) ∙ same in
+          let z : _≡_ {A = ℕ} 0 1 = cc (set, unset, ap (bitSet word) there) in
           omega arith
 
-      go : (a : Bool) → eqb q 29 ≡ a → (b : Bool) → eqb q 31 ≡ b → (c k : Bool)
-          → cond (a || b) nothing (cond c unknownHere (cond k (field (rowOf rules q)) unknownHere)) ≡ nothing → ⊥
-      go true e29 b e31 c k e = clear 29 e29 clear29
-      go false e29 true e31 c k e = clear 31 e31 clear31
-      go false e29 false e31 true k e = let z : _≡_ {A = ℕ} 0 1 = cc in omega arith
-      go false e29 false e31 false true e = let z : _≡_ {A = ℕ} 0 1 = cc in omega arith
-      go false e29 false e31 false false e = let z : _≡_ {A = ℕ} 0 1 = cc in omega arith
+      go : (bitAt q ≡ 29) ⊎ (bitAt q ≡ 31) → ⊥
+      go (inl e) = clear 29 e clear29
+      go (inr e) = clear 31 e clear31
 
   -- a position at which an unstopped walk stands can be written, and the walk behind it is unstopped too
   unstopped-here : (q at : ℕ) → q < wordBits → (rest : ℕ → Walk) (m : Meaning) → meaning rules edition (word ∷ []) q ≡ m

@@ -12,7 +12,7 @@ use borrow.Author.Tests.{le-leb, lt-leb}
 use Rattle.refusals.specs.Refusals.{Answer, refused, given}
 use Rattle.octets.specs.Parts.{part}
 use Rattle.radiotap_rules.specs.Rules.{Row, Rules, rowOf, knows, editionTaken, served}
-use Rattle.radiotap_rules.specs.Reading.{editionAbove, fixedHeader, presenceWords, wordBits, wordAt, bitAt, present, Meaning, nothing, unknownHere, field, meaning, aligned, Field, Ending, Walk, refusedAt, shown, withField, onField, fieldsFrom, fieldsOf, Reading, refusedBefore, read, readWalk, readWords, readFixed, reading}
+use Rattle.radiotap_rules.specs.Reading.{editionAbove, fixedHeader, presenceWords, wordBits, wordAt, bitAt, rowNumber, present, Meaning, nothing, unknownHere, field, meaning, aligned, Field, Ending, Walk, refusedAt, shown, withField, onField, fieldsFrom, fieldsOf, Reading, refusedBefore, read, readWalk, readWords, readFixed, reading}
 use Rattle.radiotap_rules.proofs.Meanings.{means-clear, means-none, means-vendor, means-bit}
 
 -- the field of so many octets that is shown at a position and place
@@ -42,11 +42,11 @@ module _ (s : List ℕ) (size q at : ℕ) (r : Row) where
       go (yes l) = subst P (sym (fun-ext (field-shown l))) (fits (aligned (r .alignment) at) l)
       go (no l) = subst P (sym (fun-ext (field-refused (omega arith)))) (past (aligned (r .alignment) at))
 
--- to all tables and editions a position means nothing, or to all it is a stop, or to each what it knows of the bit's field
+-- to all tables and editions a position means nothing, or to all it is a stop, or to each what it knows of the position's field
 pub by-meaning : (words : List ℕ) (q : ℕ) (P : (Rules → ℕ → Meaning) → Type 0)
     → P (λ rules edition. nothing)
     → P (λ rules edition. unknownHere)
-    → P (λ rules edition. cond (knows rules edition (bitAt q)) (field (rowOf rules (bitAt q))) unknownHere)
+    → P (λ rules edition. cond (knows rules edition (rowNumber words q)) (field (rowOf rules (rowNumber words q))) unknownHere)
     → P (λ rules edition. meaning rules edition words q)
 by-meaning words q P none stop known = on-present (present words q) refl
   where

@@ -3,28 +3,24 @@
 use Prim.Native.Nat.{ℕ, _+_, _-_, _*_, _^_, _≤_, _<_}
 use mathlib.Core.Path.{_≡_}
 use mathlib.Core.Bool.{Bool, true, cond, _&&_}
-use mathlib.Core.List.{List, [], _∷_, _++_}
+use mathlib.Core.List.{List, [], _++_}
 use lib.ListN.{length, take, drop}
-use lib.Dec.{leb, ltb, eqb}
+use lib.Dec.{leb, ltb}
 use Rattle.refusals.specs.Refusals.{given}
 use Rattle.octets.specs.Numbers.{Octets}
 use Rattle.octets.specs.Parts.{part}
-use Rattle.radiotap_rules.specs.Rules.{Row, Rules, tableOk, editionTaken, served}
+use Rattle.radiotap_rules.specs.Rules.{Row, Rules, rowUnknown, everyRow, tableOk, editionTaken, served}
 use Rattle.radiotap_rules.specs.Reading.{fixedLength, wordBits, Field, ended, reading, read}
 use Rattle.radiotap_rules.specs.Writing.{plan, laidFields, writing, written}
 
 -- the test of one row's size: known to none, or of at most so many octets
 abbrev pub sizeWithin : (most : ℕ) → Row → Bool
-sizeWithin most r = cond (eqb (r .first) 0) true (leb (r .size) most)
-
-abbrev pub sizesWithin : (most : ℕ) → List Row → Bool
-sizesWithin most [] = true
-sizesWithin most (r ∷ rs) = sizeWithin most r && sizesWithin most rs
+sizeWithin most r = cond (rowUnknown r) true (leb (r .size) most)
 
 -- the test that a header with one presence word fits a length of two octets: behind the fixed header at most a field for
 -- each bit, with at most 7 pad octets before it
 abbrev pub lengthFits : (most : ℕ) → Rules → Bool
-lengthFits most rules = sizesWithin most (rules .rows) && ltb (fixedLength + wordBits * (most + 7)) (2 ^ 16)
+lengthFits most rules = everyRow (sizeWithin most) (rules .rows) && ltb (fixedLength + wordBits * (most + 7)) (2 ^ 16)
 
 -- the fields that are written, as a reading shows them: those of the word in the edition asked for, with their values
 abbrev pub fieldsWritten : Rules → (edition word : ℕ) → List ℕ → List Field

@@ -8,6 +8,7 @@ use Rattle.refusals.specs.Refusals.{Answer, refused, given, shortHeader, versio
 use Rattle.octets.specs.Numbers.{little, numberAt}
 use Rattle.octets.specs.Parts.{part}
 use Rattle.radiotap_rules.specs.Rules.{Row, Rules, rowOf, knows, editionTaken, served}
+pub use Rattle.radiotap_rules.specs.Rules.{wordBits}
 
 -- 9: the length is below 8 or above the input
 abbrev pub radiotapLength : ℕ
@@ -49,10 +50,6 @@ fixedHeader s =
 -- whether a bit of a word is set
 abbrev pub bitSet : (word bit : ℕ) → Bool
 bitSet word bit = eqb (word / 2 ^ bit % 2) 1
-
--- the bits of a presence word
-abbrev pub wordBits : ℕ
-wordBits = 32
 
 -- at most 8 presence words in all
 abbrev pub mostWords : ℕ

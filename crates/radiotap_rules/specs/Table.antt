@@ -1,6 +1,9 @@
 -- Document 01, "Radiotap": the table of editions 1 to 3, with the published field names.
+use mathlib.Core.Path.{_≡_}
+use mathlib.Core.Bool.{true}
 use mathlib.Core.List.{List, [], _∷_}
-use Rattle.radiotap_rules.specs.Rules.{Row, row, unknown, Rules}
+use lib.ListN.{length}
+use Rattle.radiotap_rules.specs.Rules.{wordBits, Row, row, unknown, Rules, nested, noneKnows, tableOk}
 
 abbrev pub ourRows : List Row
 ourRows =
@@ -41,3 +44,12 @@ ourRows =
 -- editions 1 to 3; edition 0 asks for edition 1
 abbrev pub ourRules : Rules
 ourRules = record { rows = ourRows; readingDefault = 1; writingDefault = 1; newest = 3 }
+
+-- the tests that our table passes; proof: proofs/TableTests.antt
+pub record OursPass : Type 0 where
+  -- it has a row for each bit, and is a table whose editions nest
+  pub rows : length ourRows ≡ wordBits
+  pub table : tableOk ourRules ≡ true
+  pub nests : nested ourRules ≡ true
+  -- bit 18 and the rest are known to none
+  pub rest : noneKnows ourRules (18 ∷ 22 ∷ 23 ∷ 24 ∷ 25 ∷ 26 ∷ 27 ∷ 28 ∷ 29 ∷ 30 ∷ 31 ∷ []) ≡ true

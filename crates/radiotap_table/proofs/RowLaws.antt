@@ -1,52 +1,25 @@
 -- What the table's test says of its rows, and where a field lies by its row as it is read.
 -- Assumes nothing.
-use Prim.Native.Nat.{ℕ, zero, suc, _≤_, _<_, _+_, _-_, _%_}
+use Prim.Native.Nat.{ℕ, _≤_, _<_, _+_, _-_, _%_}
 use mathlib.Core.Path.{_≡_, refl, sym, ap, _∙_}
-use mathlib.Core.Bool.{Bool, true, false, cond, _&&_, and-eq-true-iff}
-use mathlib.Core.List.{List, [], _∷_}
+use mathlib.Core.Bool.{Bool, true, false, cond}
+use mathlib.Core.List.{List}
 use native.Mathlib.Omega.{arith}
 use lib.ListN.{getD}
 use native.Mathlib.Nat.{div-mul-le-self}
 use lib.Bits.{bitOr}
-use lib.Dec.{leb, ltb}
-use borrow.Author.Tests.{leb-true, le-leb, lt-leb, ne-eqb}
-use Rattle.radiotap_rules.specs.Rules.{Row, Rules, unknown, rowOf, knows, alignmentOk, rowOk, rowsOk, tableOk}
+use borrow.Author.Tests.{le-leb, lt-leb}
+use Rattle.radiotap_rules.specs.Rules.{Rules, rowOf, knows, alignmentOk, tableOk}
 use Rattle.radiotap_rules.specs.Table.{ourRules}
 use Rattle.radiotap_rules.specs.Reading.{aligned}
 use Rattle.radiotap_rules.specs.Answers.{unknownField, lies, layOf}
+use Rattle.radiotap_rules.proofs.TableTests.{known-alignment}
 use Rattle.radiotap_rows.specs.Rows.{numbersIn}
 use Rattle.radiotap_table.specs.declared.Span.{Span}
 use Rattle.radiotap_table.specs.Says.{SpannedAs, AlignedAs}
 use Rattle.radiotap_table.proofs.RoundLaws.{alignment-above, alignment-most, alignment-filled}
 
--- every row of rows that pass the test passes it
-row-ok : (newest : ℕ) (rs : List Row) (n : ℕ) → rowsOk newest rs ≡ true → rowOk newest (getD rs n unknown) ≡ true
-row-ok newest [] n ok = refl
-row-ok newest (r ∷ rs) zero ok = and-eq-true-iff (rowOk newest r) (rowsOk newest rs) .0 ok .0
-row-ok newest (r ∷ rs) (suc n) ok = row-ok newest rs n (and-eq-true-iff (rowOk newest r) (rowsOk newest rs) .0 ok .1)
-
--- the rows of a table that passes the test
-rows-ok : (rules : Rules) → tableOk rules ≡ true → rowsOk (rules .newest) (rules .rows) ≡ true
-rows-ok rules = first _ _ _ _ _ _
-  where
-    first : (a b c d e f : Bool) → (a && b && c && d && e && f) ≡ true → a ≡ true
-    first true b c d e f h = refl
-    first false b c d e f h = h
-
 module _ (rules : Rules) (n : ℕ) where
-  -- what the test says of a row that some edition knows
-  some-knows : tableOk rules ≡ true → 1 ≤ rowOf rules n .first
-      → ((alignmentOk (rowOf rules n .alignment) && ltb 0 (rowOf rules n .size)) ≡ true) × (leb (rowOf rules n .first) (rules .newest) ≡ true)
-  some-knows ok h =
-      and-eq-true-iff _ _ .0
-      (rw (ne-eqb (rowOf rules n .first) 0 (omega arith)) at (row-ok (rules .newest) (rules .rows) n (rows-ok rules ok)))
-
-  -- a field that an edition knows has an alignment of 1, 2, 4 or 8
-  known-alignment : (edition : ℕ) → tableOk rules ≡ true → knows rules edition n ≡ true → alignmentOk (rowOf rules n .alignment) ≡ true
-  known-alignment edition ok e =
-      let above : 1 ≤ rowOf rules n .first = leb-true 1 (rowOf rules n .first) (and-eq-true-iff _ _ .0 e .0) in
-      and-eq-true-iff _ _ .0 (some-knows ok above .0) .0
-
   module _ (edition at : ℕ) where
     -- a field that the edition does not know
     pub lay-unknown : knows rules edition n ≡ false → layOf rules edition n at ≡ unknownField
@@ -65,7 +38,7 @@ module _ (rules : Rules) (n : ℕ) where
             → start < at + 8
         go true e l =
             let same : aligned a at ≡ start = cc in
-            omega (arith, same, div-mul-le-self (at + (a - 1)) a, alignment-most a (known-alignment edition ok e))
+            omega (arith, same, div-mul-le-self (at + (a - 1)) a, alignment-most a (known-alignment rules edition n ok e))
         go false e l = let z : _≡_ {A = ℕ} 0 1 = cc in absurd (omega arith)
 
 -- a row as it is read: three numbers
@@ -107,7 +80,7 @@ module _ (rules : Rules) (n : ℕ) {r : List ℕ} (reads : r ≡ numbersIn rules
         → layOf rules edition n at ≡ lies start (getD r 1 0)
     unfolding layOf
     lay-known start ok next k =
-        let same : start ≡ aligned (getD r 0 0) at = next .0 (rw alignment-read (known-alignment rules n edition ok k)) in
+        let same : start ≡ aligned (getD r 0 0) at = next .0 (rw alignment-read (known-alignment rules edition n ok k)) in
         rw (k, same, alignment-read, size-read)
 
 -- a field that an edition knows starts where its mask fills up the places behind the last that is not free
@@ -116,6 +89,6 @@ pub span-lies : (edition bit last : ℕ) {p : Span} → SpannedAs bit p → know
 unfolding layOf
 span-lies edition bit last spans k =
     let a : ℕ = rowOf ourRules bit .alignment in
-    let ok : alignmentOk a ≡ true = known-alignment ourRules bit edition refl k in
+    let ok : alignmentOk a ≡ true = known-alignment ourRules edition bit refl k in
     let mask : (a + 255) % 256 ≡ a - 1 = omega (arith, alignment-above a ok, alignment-most a ok) in
     rw (k, spans .0, spans .1, mask, alignment-filled a last ok)

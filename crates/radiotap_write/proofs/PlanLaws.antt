@@ -2,77 +2,31 @@
 -- Assumes nothing.
 use Prim.Native.Nat.{ℕ, zero, suc, _+_, _-_, _*_, _≤_, _<_}
 use mathlib.Core.Path.{_≡_, refl, sym, ap, ap₂, _∙_}
-use mathlib.Core.Bool.{Bool, true, false, cond, not, _&&_, and-eq-true-iff}
+use mathlib.Core.Bool.{Bool, true, false, cond}
 use mathlib.Core.List.{List, [], _∷_}
 use native.Mathlib.Omega.{arith}
-use native.Mathlib.Nat.{div-eq-of-lt, mod-eq-of-lt, lt-of-not-le, zero-add}
+use native.Mathlib.Nat.{mod-eq-of-lt, lt-of-not-le, zero-add}
 use native.Mathlib.Decide.{decLe}
-use lib.ListN.{getD}
-use lib.Dec.{leb, ltb}
-use borrow.Author.Tests.{le-leb, leb-true, ne-eqb}
-use Rattle.radiotap_rules.specs.Rules.{Row, Rules, unknown, rowOf, knows, alignmentOk, rowOk, rowsOk, noneKnows, tableOk}
-use Rattle.radiotap_rules.specs.Reading.{fixedLength, bitSet, wordBits, bitAt, present, field, meaning, aligned}
+use Rattle.radiotap_rules.specs.Rules.{Rules, rowOf, knows, tableOk}
+use Rattle.radiotap_rules.specs.Reading.{fixedLength, bitSet, wordBits, bitAt, rowNumber, field, meaning, aligned}
 use Rattle.radiotap_rules.specs.Answers.{unknownField, lies, layOf}
 use Rattle.radiotap_rules.specs.Writing.{isField, writableFrom, writable, Planned, planFrom, plan, summed}
 use Rattle.radiotap_rules.specs.Rewriting.{lastEnd}
+use Rattle.radiotap_rules.proofs.TableTests.{known-aligned, known-low}
+use Rattle.radiotap_rules.proofs.Meanings.{number-alone, present-alone, means-known}
 use Rattle.radiotap_rules.proofs.Walks.{by-meaning}
-use Rattle.radiotap_rules.proofs.Planning.{aligned-after, known-from, known-aligned, clear-nothing}
+use Rattle.radiotap_rules.proofs.Planning.{aligned-after, clear-nothing}
 use Rattle.radiotap_bits.specs.Bits.{NextSet}
 use Rattle.radiotap_table.proofs.RowLaws.{lay-near}
 
--- a row that some edition knows is of no edition above the newest
-row-below : (newest : ℕ) (rs : List Row) (n : ℕ) → rowsOk newest rs ≡ true → 1 ≤ getD rs n unknown .first
-    → getD rs n unknown .first ≤ newest
-row-below newest [] n ok h = absurd (omega arith)
-row-below newest (r ∷ rs) zero ok h =
-    let passed : (alignmentOk (r .alignment) && ltb 0 (r .size) && leb (r .first) newest) ≡ true =
-    rw (ne-eqb (r .first) 0 (omega arith)) at (and-eq-true-iff (rowOk newest r) (rowsOk newest rs) .0 ok .0) in
-    leb-true (r .first) newest (and-eq-true-iff (alignmentOk (r .alignment) && ltb 0 (r .size)) (leb (r .first) newest) .0 passed .1)
-row-below newest (r ∷ rs) (suc n) ok h = row-below newest rs n (and-eq-true-iff (rowOk newest r) (rowsOk newest rs) .0 ok .1) h
-
--- the parts of the test over a table: its rows, and the field numbers that no edition knows
-tests : (rules : Rules) → tableOk rules ≡ true
-    → (rowsOk (rules .newest) (rules .rows) ≡ true) × (noneKnows rules (18 ∷ 29 ∷ 30 ∷ 31 ∷ []) ≡ true)
-tests rules = go _ _ _ _ _ _
-  where
-    go : (a b c d e f : Bool) → (a && b && c && d && e && f) ≡ true → (a ≡ true) × (b ≡ true)
-    go true true c d e f h = (refl, refl)
-    go true false c d e f h = let z : _≡_ {A = ℕ} 0 1 = cc in absurd (omega arith)
-    go false b c d e f h = let z : _≡_ {A = ℕ} 0 1 = cc in absurd (omega arith)
-
-module _ (rules : Rules) (ok : tableOk rules ≡ true) (edition : ℕ) where
-  -- the newest edition knows each field that an edition knows
-  known-newest : (n : ℕ) → knows rules edition n ≡ true → knows rules (rules .newest) n ≡ true
-  known-newest n e =
-      let above = known-from rules edition n e .0 in
-      let below = row-below (rules .newest) (rules .rows) n (tests rules ok .0) above in
-      rw (le-leb 1 (rowOf rules n .first) above, le-leb (rowOf rules n .first) (rules .newest) below)
-
-  -- no edition knows bits 29 to 31
-  known-other : (n : ℕ) → knows rules edition n ≡ true → (n ≡ 29 → ⊥) × (n ≡ 30 → ⊥) × (n ≡ 31 → ⊥)
-  known-other n e =
-      let known = known-newest n e in
-      let none = go (knows rules (rules .newest) 18) (knows rules (rules .newest) 29) (knows rules (rules .newest) 30) (knows rules (rules .newest) 31) (tests rules ok .1) in
-      (λ same. other 29 same known (none .0), λ same. other 30 same known (none .1), λ same. other 31 same known (none .2))
-    where
-      go : (a b c d : Bool) → (not a && (not b && (not c && (not d && true)))) ≡ true → (b ≡ false) × (c ≡ false) × (d ≡ false)
-      go false false false false h = (refl, refl, refl)
-      go true b c d h = let z : _≡_ {A = ℕ} 0 1 = cc in absurd (omega arith)
-      go false true c d h = let z : _≡_ {A = ℕ} 0 1 = cc in absurd (omega arith)
-      go false false true d h = let z : _≡_ {A = ℕ} 0 1 = cc in absurd (omega arith)
-      go false false false true h = let z : _≡_ {A = ℕ} 0 1 = cc in absurd (omega arith)
-
-      other : (m : ℕ) → n ≡ m → knows rules (rules .newest) n ≡ true → knows rules (rules .newest) m ≡ false → ⊥
-      other m same known none = let z : _≡_ {A = ℕ} 0 1 = cc in absurd (omega arith)
-
-  -- so a set bit that it knows means the field with its row
-  set-known : (word q : ℕ) → q < wordBits → bitSet word q ≡ true → knows rules edition q ≡ true
-      → meaning rules edition (word ∷ []) q ≡ field (rowOf rules q)
-  unfolding meaning
-  set-known word q l set known =
-      let there : present (word ∷ []) q ≡ true = rw (div-eq-of-lt l, mod-eq-of-lt l, set) in
-      let other = known-other q known in
-      rw (there, mod-eq-of-lt l, ne-eqb q 29 (other .0), ne-eqb q 30 (other .1), ne-eqb q 31 (other .2), known)
+-- a set bit that an edition knows means the field with its row
+set-known : (rules : Rules) → tableOk rules ≡ true → (edition word q : ℕ) → q < wordBits → bitSet word q ≡ true
+    → knows rules edition q ≡ true → meaning rules edition (word ∷ []) q ≡ field (rowOf rules q)
+set-known rules ok edition word q l set known =
+    let n = number-alone word q l in
+    let low : bitAt q ≤ 28 = rw (mod-eq-of-lt l) (known-low rules edition q ok known) in
+    let there : knows rules edition (rowNumber (word ∷ []) q) ≡ true = ap (knows rules edition) n ∙ known in
+    means-known rules edition (word ∷ []) q (present-alone word q l ∙ set) low there ∙ ap (λ (k : ℕ). field (rowOf rules k)) n
 
 -- what the table's answer at a bit says
 module _ (rules : Rules) (edition : ℕ) where
@@ -128,7 +82,8 @@ module _ (rules : Rules) (edition word : ℕ) where
   unknown-stops q l set none =
       let count : wordBits - q ≡ suc (wordBits - suc q) = omega arith in
       let stop : isField (meaning rules edition (word ∷ []) q) ≡ false =
-      by-meaning (word ∷ []) q (λ meaningIn. isField (meaningIn rules edition) ≡ false) refl refl (rw (mod-eq-of-lt l, none)) in
+      by-meaning (word ∷ []) q (λ meaningIn. isField (meaningIn rules edition) ≡ false) refl refl
+      (rw (number-alone word q l, none)) in
       rw count (rw (set, stop))
 
   -- a set bit that it knows is the next field
