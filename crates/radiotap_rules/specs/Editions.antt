@@ -8,6 +8,7 @@ use lib.ListN.{length}
 use Rattle.radiotap_rules.specs.Rules.{Rules, rowOf, knows, tableOk, nested, editionTaken, served}
 use Rattle.radiotap_rules.specs.Table.{ourRules}
 use Rattle.radiotap_rules.specs.Reading.{Field, Ending, stopped, Reading, refusedBefore, refusedAtField, read, reading, noField, fieldOf}
+use Rattle.radiotap_rules.specs.Writing.{writing, written}
 
 -- of two editions, the older by what each is taken for; of two equal ones either is
 abbrev pub Older : Rules → (older newer : ℕ) → Type 0
@@ -78,3 +79,13 @@ abbrev pub SameReadings : Type 0
 SameReadings = (rules rules′ : Rules) (edition : ℕ) (s : List ℕ) → served rules edition ≡ true → served rules′ edition ≡ true
     → editionTaken (rules .readingDefault) edition ≡ editionTaken (rules′ .readingDefault) edition
     → SameTable rules rules′ (editionTaken (rules .readingDefault) edition) → reading rules edition s ≡ reading rules′ edition s
+
+-- writings agree there too: what is answered, and what the output then holds
+pub record SameWriting (rules rules′ : Rules) (edition word : ℕ) (values : List ℕ) : Type 0 where
+  pub answer : (size at : ℕ) → writing rules size at edition word values ≡ writing rules′ size at edition word values
+  pub output : (out : List ℕ) (at : ℕ) → written rules out at edition word values ≡ written rules′ out at edition word values
+
+abbrev pub SameWritings : Type 0
+SameWritings = (rules rules′ : Rules) (edition word : ℕ) (values : List ℕ) → served rules edition ≡ true → served rules′ edition ≡ true
+    → editionTaken (rules .writingDefault) edition ≡ editionTaken (rules′ .writingDefault) edition
+    → SameTable rules rules′ (editionTaken (rules .writingDefault) edition) → SameWriting rules rules′ edition word values

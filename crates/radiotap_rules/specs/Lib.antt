@@ -1,12 +1,12 @@
 pub mod Rules
 pub mod Reading
 pub mod Table
-pub mod Editions
 pub mod Words
 pub mod Fields
 pub mod Following
 pub mod Steps
 pub mod Answers
 pub mod Writing
+pub mod Editions
 pub mod Rewriting
 pub mod Outputs
