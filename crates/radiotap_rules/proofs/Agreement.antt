@@ -2,41 +2,18 @@
 -- Assumes nothing.
 use Prim.Native.Nat.{ℕ, zero, suc, _+_, _≤_, _<_}
 use mathlib.Core.Path.{_≡_, refl, ap, _∙_, subst₂}
-use mathlib.Core.Bool.{Bool, true, false, cond}
 use mathlib.Core.Logic.{inl, inr}
 use mathlib.Core.List.{List, [], _∷_, _++_}
 use native.Mathlib.Omega.{arith}
 use native.Mathlib.Decide.{decLt}
 use lib.ListN.{length}
-use borrow.Author.Tests.{leb-true}
-use Rattle.radiotap_rules.specs.Rules.{Row, Rules, rowOf, knows, editionTaken}
-use Rattle.radiotap_rules.specs.Reading.{wordAt, bitAt, rowNumber, Meaning, nothing, unknownHere, field, meaning, Field, Ending, ended, stopped, Walk, refusedAt, shown, withField, onField, onMeaning, fieldsFrom, Reading, refusedBefore, refusedAtField, read, frameOf, readWalk, reading, noField, nth}
-use Rattle.radiotap_rules.proofs.Walks.{fieldAt, on-field, by-meaning, by-walks}
-use Rattle.radiotap_rules.proofs.TableTests.{taken-served, knows-more, ours-pass}
+use Rattle.radiotap_rules.specs.Rules.{Row, Rules, editionTaken}
+use Rattle.radiotap_rules.specs.Reading.{wordAt, bitAt, Meaning, nothing, unknownHere, field, meaning, Field, Ending, ended, stopped, Walk, refusedAt, shown, withField, onField, onMeaning, fieldsFrom, Reading, refusedBefore, refusedAtField, read, frameOf, readWalk, reading, noField, nth}
+use Rattle.radiotap_rules.proofs.Walks.{fieldAt, on-field, by-walks}
+use Rattle.radiotap_rules.proofs.TableTests.{ours-pass}
+use Rattle.radiotap_rules.proofs.Nesting.{Grows, served-grows, Means, alike, newly, means}
 use Rattle.radiotap_rules.specs.Table.{ourRules}
 use Rattle.radiotap_rules.specs.Editions.{NotAfter, Shows, Agree, Demand3, OursAgree}
-
--- a newer edition knows what an older one knows
-abbrev Grows : Rules → (older newer : ℕ) → Type 0
-Grows rules older newer = (n : ℕ) → knows rules older n ≡ true → knows rules newer n ≡ true
-
--- how what a position means to an older edition stands to what it means to a newer one
-data Means : Meaning → Meaning → Type 0 where
-  alike : {m : Meaning} → Means m m
-  newly : {r : Row} → Means unknownHere (field r)
-
-means : (rules : Rules) (older newer : ℕ) (words : List ℕ) (q : ℕ) → Grows rules older newer
-    → Means (meaning rules older words q) (meaning rules newer words q)
-means rules older newer words q grows =
-    by-meaning words q (λ meaningIn. Means (meaningIn rules older) (meaningIn rules newer)) alike alike
-    (known (knows rules older (rowNumber words q)) (knows rules newer (rowNumber words q)) (grows (rowNumber words q)))
-  where
-    known : (k k′ : Bool) → (k ≡ true → k′ ≡ true)
-        → Means (cond k (field (rowOf rules (rowNumber words q))) unknownHere) (cond k′ (field (rowOf rules (rowNumber words q))) unknownHere)
-    known true true h = alike
-    known true false h = let z : _≡_ {A = ℕ} 0 1 = cc (h refl) in absurd (omega arith)
-    known false true h = newly
-    known false false h = alike
 
 -- if a walk refuses a field, it is none before a position
 abbrev NoneBefore : ℕ → Walk → Type 0
@@ -210,7 +187,7 @@ demand-3 rules older newer s ok nests servedOlder servedNewer l =
     n = editionTaken (rules .readingDefault) newer
 
     grows : Grows rules o n
-    grows k = knows-more rules o n k nests (leb-true n (rules .newest) (taken-served rules newer ok servedNewer .0)) l
+    grows = served-grows rules o newer ok nests servedNewer l
 
 -- demand 3 for the table of document 01
 pub agree-ours : OursAgree

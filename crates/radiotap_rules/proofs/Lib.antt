@@ -2,7 +2,10 @@ pub mod TableTests
 pub mod Meanings
 pub mod Walks
 pub mod Words
+pub mod Orders
+pub mod WriteOrders
 pub mod Steps
+pub mod Nesting
 pub mod Agreement
 pub mod Tables
 pub mod Places

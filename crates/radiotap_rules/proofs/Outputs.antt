@@ -9,20 +9,20 @@ use native.Mathlib.Omega.{arith}
 use native.Mathlib.Nat.{suc-mul, mul-le-mul-right, div-mul-le-self}
 use native.Mathlib.Decide.{decLe}
 use lib.ListN.{length}
-use lib.Dec.{ltb, eqb}
-use borrow.Author.Tests.{leb-true, ltb-true, eqb-true, ne-eqb}
-use Rattle.refusals.specs.Refusals.{Answer, given}
-use Rattle.refusals.proofs.Orders.{chosen}
-use Rattle.octets.specs.Parts.{part, splice, hasRoom}
+use lib.Dec.{ltb}
+use borrow.Author.Tests.{leb-true, ltb-true, ne-eqb}
+use Rattle.refusals.specs.Refusals.{given}
+use Rattle.octets.specs.Parts.{part, splice}
 use Rattle.octets.proofs.PartLaws.{length-splice, splice-before, splice-behind, part-splice}
-use Rattle.radiotap_rules.specs.Rules.{Row, Rules, rowOf, everyRow, alignmentOk, tableOk, editionTaken, served}
+use Rattle.radiotap_rules.specs.Rules.{Row, Rules, rowOf, everyRow, alignmentOk, tableOk, editionTaken}
 use Rattle.radiotap_rules.specs.Reading.{fixedLength, wordBits, Meaning, nothing, unknownHere, field, meaning, aligned, ended, reading, read}
 use Rattle.radiotap_rules.specs.Table.{ourRules}
-use Rattle.radiotap_rules.specs.Writing.{writable, Planned, withPlan, planFrom, plan, summed, laidFields, headerOctets, writing, written}
+use Rattle.radiotap_rules.specs.Writing.{Planned, withPlan, planFrom, plan, summed, laidFields, headerOctets, writing, written}
 use Rattle.radiotap_rules.specs.Rewriting.{Writable, lastEnd}
 use Rattle.radiotap_rules.specs.Outputs.{sizeWithin, lengthFits, WrittenReadsBack, EveryTableReadsBack}
 use Rattle.radiotap_rules.proofs.TableTests.{every-row, known-some, known-alignment, ours-pass}
-use Rattle.radiotap_rules.proofs.Planning.{EachRow, each-planned, plan-aligned, length-laid, length-header}
+use Rattle.radiotap_rules.proofs.Planning.{EachRow, each-planned, header-ends}
+use Rattle.radiotap_rules.proofs.WriteOrders.{writable-known, write-exactly}
 use Rattle.radiotap_rules.proofs.ReadBack.{read-back}
 
 -- an alignment that passes the test is at most 8
@@ -64,9 +64,9 @@ plan-few : (rules : Rules) (edition word : ℕ) → length (plan rules edition w
 unfolding plan
 plan-few rules edition word = planned-few rules edition word wordBits 0
 
--- under a table that passes both tests, the length of a header with values of the summed length fits two octets
+-- under a table that passes these tests, the length of a header with values of the summed length fits two octets
 header-short : (rules : Rules) (most edition word : ℕ) (values : List ℕ) → tableOk rules ≡ true → lengthFits most rules ≡ true
-    → summed (plan rules edition word) ≤ length values → length (headerOctets rules edition word values) < 2 ^ 16
+    → length values ≡ summed (plan rules edition word) → length (headerOctets rules edition word values) < 2 ^ 16
 header-short rules most edition word values ok fits long =
     let ps : List Planned = plan rules edition word in
     let both = and-eq-true-iff (everyRow (sizeWithin most) (rules .rows)) (ltb (fixedLength + wordBits * (most + 7)) (2 ^ 16)) .0 fits in
@@ -79,32 +79,10 @@ header-short rules most edition word values ok fits long =
     omega (
       arith,
       ltb-true (fixedLength + wordBits * (most + 7)) (2 ^ 16) (both .1),
-      length-header rules edition word values,
-      length-laid fixedLength ps values (plan-aligned rules edition word ok) long,
+      header-ends rules edition word values ok long,
       end-within most fixedLength ps small,
       mul-le-mul-right (most + 7) (plan-few rules edition word),
     )
-
--- what the writer's answer tells of the header, in the edition that it takes, where it is an acceptance
-record Accepted (rules : Rules) (size at next edition word : ℕ) (values : List ℕ) : Type 0 where
-  known : writable rules edition word ≡ true
-  long : length values ≡ summed (plan rules edition word)
-  room : at + length (headerOctets rules edition word values) ≤ size
-  after : at + length (headerOctets rules edition word values) ≡ next
-
-accepted : (rules : Rules) (size at next edition word : ℕ) (values : List ℕ) → writing rules size at edition word values ≡ given next
-    → Accepted rules size at next (editionTaken (rules .writingDefault) edition) word values
-unfolding writing
-accepted rules size at next edition word values e =
-    let taken : ℕ = editionTaken (rules .writingDefault) edition in
-    let serves = chosen (served rules edition) _ _ e in
-    let known = chosen (writable rules taken word) _ _ (serves .1) in
-    let long = chosen (eqb (length values) (summed (plan rules taken word))) _ _ (known .1) in
-    let room = chosen (hasRoom size at (length (headerOctets rules taken word values))) _ _ (long .1) in
-    record { known = known .0; long = eqb-true _ _ (long .0); room = leb-true _ _ (room .0); after = same (room .1) }
-  where
-    same : {a b : ℕ} → _≡_ {A = Answer ℕ} (given a) (given b) → a ≡ b
-    same e = cc
 
 -- the output of an accepted write
 spliced : (rules : Rules) (out : List ℕ) (at next edition word : ℕ) (values : List ℕ)
@@ -114,28 +92,29 @@ spliced : (rules : Rules) (out : List ℕ) (at next edition word : ℕ) (values 
 unfolding written
 spliced rules out at next edition word values e = rw e
 
--- under every table that passes both tests, what the writer accepts is read back from the output
+-- under every table that passes the tests, what the writer accepts is read back from the output
 pub every-table-reads-back : EveryTableReadsBack
-every-table-reads-back rules most ok fits out at next edition reader word values word32 octets serves later e =
+every-table-reads-back rules most ok nests fits out at next edition reader word values word32 octets serves later e =
     let taken : ℕ = editionTaken (rules .writingDefault) edition in
-    let w = accepted rules (length out) at next edition word values e in
+    let told = write-exactly rules (length out) at edition word values .accepted next .0 e in
+    let w = told .0 in
     let xs : List ℕ = headerOctets rules taken word values in
     let output : written rules out at edition word values ≡ splice out at xs = spliced rules out at next edition word values e in
-    let after : at + length xs ≡ next = w .after in
-    let inside : at + length xs ≤ length out = w .room in
+    let after : at + length xs ≡ next = told .2 in
+    let inside : at + length xs ≤ length out = told .1 in
     let count : next - at ≡ length xs = omega arith in
     let there : part (written rules out at edition word values) at (next - at) ≡ xs =
     rw (output, count) (part-splice out at xs (omega arith)) in
     let writes : Writable rules taken word values =
     record {
-      known = w .known;
+      known = writable-known rules taken word .1 (w .known);
       long = w .long;
       word32 = word32;
       octets = octets;
-      short = header-short rules most taken word values ok fits (omega (arith, w .long));
+      short = header-short rules most taken word values ok fits (w .long);
     } in
     let back : (frame : List ℕ) → reading rules reader (xs ++ frame) ≡ read (laidFields (plan rules taken word) fixedLength values) ended frame =
-    λ frame. read-back rules taken reader word values frame ok serves later writes in
+    λ frame. read-back rules taken reader word values frame ok nests serves later writes in
     record {
       starts = omega arith;
       ends = omega arith;
@@ -148,4 +127,4 @@ every-table-reads-back rules most ok fits out at next edition reader word values
 
 -- so it is under the table of document 01, whose fields have at most 12 octets
 pub written-reads-back : WrittenReadsBack ourRules
-written-reads-back = every-table-reads-back ourRules 12 (ours-pass .table) refl
+written-reads-back = every-table-reads-back ourRules 12 (ours-pass .table) (ours-pass .nests) refl

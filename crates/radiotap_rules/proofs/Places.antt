@@ -2,48 +2,29 @@
 -- Assumes nothing.
 use Prim.Native.Nat.{ℕ, zero, suc, _+_, _≤_}
 use mathlib.Core.Path.{_≡_, refl, subst}
-use mathlib.Core.Bool.{Bool, true, false, cond, _&&_, and-eq-true-iff}
+use mathlib.Core.Bool.{Bool, true, false, cond}
 use mathlib.Core.List.{List, [], _∷_}
 use native.Mathlib.Omega.{arith}
-use lib.ListN.{length, getD}
-use lib.Dec.{leb, ltb, eqb}
-use borrow.Author.Tests.{leb-true}
-use Rattle.refusals.specs.Refusals.{Answer, refused, given}
+use lib.ListN.{length}
+use Rattle.refusals.specs.Refusals.{given}
 use Rattle.octets.specs.Parts.{part}
 use Rattle.octets.proofs.PartLaws.{length-part}
 use Rattle.radiotap_rules.specs.Rules.{Rules, rowOf, knows, editionTaken, served}
-use Rattle.radiotap_rules.specs.Reading.{fixedLength, lengthIn, fixedHeader, bitAt, rowNumber, Meaning, nothing, unknownHere, field, meaning, Field, Walk, refusedAt, shown, withField, onMeaning, fieldsFrom, Reading, refusedBefore, refusedAtField, read, readWalk, reading}
+use Rattle.radiotap_rules.specs.Reading.{fixedHeader, bitAt, rowNumber, Meaning, nothing, unknownHere, field, meaning, Field, Walk, refusedAt, shown, withField, onMeaning, fieldsFrom, Reading, refusedBefore, refusedAtField, read, readWalk, reading}
 use Rattle.radiotap_rules.specs.Fields.{Lies, AllLie, Inside, FieldsInside}
+use Rattle.radiotap_rules.specs.Orders.{FixedHeader}
 use Rattle.radiotap_rules.proofs.Meanings.{number-bit}
+use Rattle.radiotap_rules.proofs.Orders.{fixed-exactly}
 use Rattle.radiotap_rules.proofs.Walks.{fieldAt, on-field, by-meaning, by-walks}
 
 either : {A : Type 0} (P : A → Type 0) (t : Bool) (x y : A) → (t ≡ true → P x) → P y → P (cond t x y)
 either P true x y h h′ = h refl
 either P false x y h h′ = h′
 
--- what the fixed header's tests say of the length that it gives: it is the one in its octets, and lies between the fixed header's and
+-- what an accepted fixed header says of its length: it is the one in its octets, and lies between the fixed header's and
 -- the input's
-pub record LengthTold (s : List ℕ) (size : ℕ) : Type 0 where
-  pub told : lengthIn s ≡ size
-  pub least : fixedLength ≤ size
-  pub inside : size ≤ length s
-
-pub length-told : (s : List ℕ) (size : ℕ) → fixedHeader s ≡ given size → LengthTold s size
-unfolding fixedHeader
-length-told s size e =
-    subst Held e
-    (either Held (ltb (length s) fixedLength) _ _ (λ t. tt)
-    (either Held (eqb (getD s 0 0) 0) _ _
-    (λ t.
-    either Held (leb fixedLength (lengthIn s) && leb (lengthIn s) (length s)) _ _
-    (λ t.
-    let both = and-eq-true-iff (leb fixedLength (lengthIn s)) (leb (lengthIn s) (length s)) .0 t in
-    record { told = refl; least = leb-true fixedLength (lengthIn s) (both .0); inside = leb-true (lengthIn s) (length s) (both .1) }) tt)
-    tt))
-  where
-    Held : Answer ℕ → Type 0
-    Held (refused number place) = Unit {0}
-    Held (given n) = LengthTold s n
+pub length-told : (s : List ℕ) (size : ℕ) → fixedHeader s ≡ given size → FixedHeader s size
+length-told s size = fixed-exactly s .accepted size .0
 
 -- if a position means a field, it has the row of this field number
 abbrev OwnRow : Rules → ℕ → Meaning → Type 0

@@ -86,6 +86,14 @@ pub length-header : (rules : Rules) (edition word : ℕ) (values : List ℕ)
 unfolding headerOctets octetsOf
 length-header rules edition word values = omega arith
 
+-- with values of the summed length it ends at the last field
+pub header-ends : (rules : Rules) (edition word : ℕ) (values : List ℕ) → tableOk rules ≡ true
+    → length values ≡ summed (plan rules edition word)
+    → length (headerOctets rules edition word values) ≡ lastEnd fixedLength (plan rules edition word)
+header-ends rules edition word values ok long =
+    length-header rules edition word values
+    ∙ length-laid fixedLength (plan rules edition word) values (plan-aligned rules edition word ok) (omega arith)
+
 -- the planned fields with the octets of an input at their places
 abbrev pub plannedFields : List ℕ → (at : ℕ) → List Planned → List Field
 plannedFields s at [] = []

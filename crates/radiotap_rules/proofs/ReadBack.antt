@@ -5,42 +5,35 @@ use mathlib.Core.Path.{_≡_, refl, sym, ap, ap₂, _∙_, fun-ext}
 use mathlib.Core.Bool.{Bool, true, false, cond, and-eq-true-iff}
 use mathlib.Core.List.{List, [], _∷_, _++_, append-assoc}
 use native.Mathlib.Omega.{arith}
-use native.Mathlib.Nat.{add-zero, add-suc, suc-add}
-use lib.ListN.{length, getD, take, drop, length-append, length-drop, length-replicate, replicate}
+use lib.ListN.{length, take, drop, length-append, length-drop, length-replicate, replicate}
 use lib.Seq.{take-at, length-take-le}
-use borrow.Author.Tests.{le-leb, le-ltb}
 use Rattle.refusals.specs.Refusals.{given}
 use Rattle.octets.specs.Numbers.{little, octetsOf, numberAt}
 use Rattle.octets.specs.Parts.{part}
 use Rattle.octets.proofs.Laws.{read-after-write}
 use Rattle.octets.proofs.Fields.{past}
-use Rattle.radiotap_rules.specs.Rules.{Rules, rowOf, knows, editionTaken}
-use Rattle.radiotap_rules.specs.Reading.{fixedLength, lengthIn, fixedHeader, bitSet, wordBits, wordsFrom, presenceWords, rowNumber, nothing, unknownHere, field, meaning, aligned, Field, ended, stopped, Walk, refusedAt, shown, onMeaning, fieldsFrom, fieldsOf, readWalk, readWords, readFixed, reading}
+use Rattle.radiotap_rules.specs.Rules.{Rules, editionTaken}
+use Rattle.radiotap_rules.specs.Reading.{fixedLength, lengthIn, fixedHeader, bitSet, wordBits, wordsFrom, presenceWords, Meaning, meaning, aligned, Field, ended, stopped, Walk, refusedAt, shown, onMeaning, fieldsFrom, fieldsOf, readWalk, readWords, readFixed, reading}
 use Rattle.radiotap_rules.specs.Writing.{isField, writableAt, writableFrom, writable, Planned, plan, summed, laid, laidFields, headerOctets}
 use Rattle.radiotap_rules.specs.Rewriting.{lastEnd, ReadBack}
-use Rattle.radiotap_rules.proofs.Walks.{by-meaning}
-use Rattle.radiotap_rules.proofs.TableTests.{known-from}
+use Rattle.radiotap_rules.proofs.Nesting.{Grows, served-grows, Means, alike, newly, means}
+use Rattle.radiotap_rules.proofs.Orders.{fixed-exactly}
+use Rattle.radiotap_rules.proofs.WriteOrders.{writable-known}
 use Rattle.radiotap_rules.proofs.Planning.{Aligned, aligned-after, plan-aligned, length-laid, plannedFields, clear-nothing, WalkedTo, walked}
 
-module _ (rules : Rules) (edition reader : ℕ) (later : edition ≤ reader) (word : ℕ) where
+module _ (rules : Rules) (edition reader : ℕ) (grows : Grows rules edition reader) (word : ℕ) where
   -- what can be written in an edition means the same in a later one
   later-meaning : (q : ℕ) → q < wordBits → writableAt rules edition word q ≡ true
       → meaning rules edition (word ∷ []) q ≡ meaning rules reader (word ∷ []) q
   later-meaning q inside = go (bitSet word q) refl
     where
-      known : (k : Bool) → knows rules edition (rowNumber (word ∷ []) q) ≡ k → isField (cond k (field (rowOf rules (rowNumber (word ∷ []) q))) unknownHere) ≡ true
-          → cond k (field (rowOf rules (rowNumber (word ∷ []) q))) unknownHere
-          ≡ cond (knows rules reader (rowNumber (word ∷ []) q)) (field (rowOf rules (rowNumber (word ∷ []) q))) unknownHere
-      known true e h =
-          let from = known-from rules edition (rowNumber (word ∷ []) q) e in
-          rw (le-leb 1 (rowOf rules (rowNumber (word ∷ []) q) .first) (from .0), le-leb (rowOf rules (rowNumber (word ∷ []) q) .first) reader (omega arith))
-      known false e h = let z : _≡_ {A = ℕ} 0 1 = cc in absurd (omega arith)
+      same : {m m′ : Meaning} → Means m m′ → isField m ≡ true → m ≡ m′
+      same alike h = refl
+      same newly h = let z : _≡_ {A = ℕ} 0 1 = cc in absurd (omega arith)
 
       go : (t : Bool) → bitSet word q ≡ t → cond t (isField (meaning rules edition (word ∷ []) q)) true ≡ true
           → meaning rules edition (word ∷ []) q ≡ meaning rules reader (word ∷ []) q
-      go true e =
-          by-meaning (word ∷ []) q (λ meaningIn. isField (meaningIn rules edition) ≡ true → meaningIn rules edition ≡ meaningIn rules reader)
-          (λ h. refl) (λ h. refl) (known (knows rules edition (rowNumber (word ∷ []) q)) refl)
+      go true e = same (means rules edition reader (word ∷ []) q grows)
       go false e = λ h. clear-nothing rules edition word q inside e ∙ sym (clear-nothing rules reader word q inside e)
 
   -- so a later edition walks over it alike
@@ -76,13 +69,6 @@ laid-planned s at (p ∷ ps) values frame h long e =
     let octets : take size (drop place s) ≡ value = rw there (take-at value (rest ++ frame) size valueLong) in
     rw (octets, laid-planned s (place + size) ps (drop size values) frame (h .1) (rw length-drop (omega arith)) behind)
 
--- a fixed header gives a length that it holds and that fits
-fixed-given : (s : List ℕ) (size : ℕ) → getD s 0 0 ≡ 0 → lengthIn s ≡ size → fixedLength ≤ size → size ≤ length s
-    → fixedHeader s ≡ given size
-unfolding fixedHeader
-fixed-given s size version e low high =
-    rw (le-ltb (length s) fixedLength (omega arith), version, e, le-leb fixedLength size low, le-leb size (length s) high)
-
 -- bit 31 clear, the first presence word is the only one
 one-word : (s : List ℕ) (size word : ℕ) → numberAt little 4 s 4 ≡ word → bitSet word 31 ≡ false
     → presenceWords s size ≡ given (word ∷ [])
@@ -91,27 +77,13 @@ one-word s size word e clear =
     let clearThere : bitSet (numberAt little 4 s 4) 31 ≡ false = rw e clear in
     rw (clearThere, wordsFrom, e)
 
--- where a word can be written, so can each position of it
-writable-at : (rules : Rules) (edition word left q k : ℕ) → writableFrom rules edition word left q ≡ true → k < left
-    → writableAt rules edition word (q + k) ≡ true
-writable-at rules edition word zero q k known l = absurd (omega arith)
-writable-at rules edition word (suc left) q k known l =
-    let both = and-eq-true-iff (writableAt rules edition word q) (writableFrom rules edition word left (suc q)) .0 known in
-    go k l (both .0) (λ k l. writable-at rules edition word left (suc q) k (both .1) l)
-  where
-    go : (k : ℕ) → k < suc left → writableAt rules edition word q ≡ true
-        → ((k : ℕ) → k < left → writableAt rules edition word (suc q + k) ≡ true) → writableAt rules edition word (q + k) ≡ true
-    go zero l here rest = rw (add-zero q) here
-    go (suc k) l here rest = rw (add-suc q k, ← suc-add q k) (rest k (omega arith))
-
--- so its bit 31 is clear
+-- bit 31 of a word that can be written is clear
 bit-31-clear : (rules : Rules) (edition word : ℕ) → writable rules edition word ≡ true → bitSet word 31 ≡ false
-unfolding writable meaning
-bit-31-clear rules edition word known = go (bitSet word 31) (writable-at rules edition word wordBits 0 31 known (omega arith))
+bit-31-clear rules edition word known = go (bitSet word 31) refl
   where
-    go : (t : Bool) → cond t (isField (cond t nothing nothing)) true ≡ true → t ≡ false
-    go true e = sym e
-    go false e = refl
+    go : (t : Bool) → bitSet word 31 ≡ t → t ≡ false
+    go true set = absurd (omega (arith, writable-known rules edition word .0 known 31 (omega arith) set .0))
+    go false clear = refl
 
 -- a walk over a word that can be written, whose fields end inside the length, shows the planned fields
 walk-shows : (s : List ℕ) (size at : ℕ) (ps : List Planned) {known : Bool} (x : Walk) → WalkedTo s size at ps known x → known ≡ true
@@ -123,7 +95,7 @@ walk-shows s size at ps (shown fs (stopped w b)) h known l = let z : _≡_ {A = 
 -- written in an edition and read in it or a later one, the same fields come out, and the frame behind them
 pub read-back : ReadBack
 unfolding headerOctets octetsOf numberAt reading
-read-back rules edition reader word values frame ok servedReader later w =
+read-back rules edition reader word values frame ok nests servedReader later w =
     let ps : List Planned = plan rules edition word in
     let xs : List ℕ = laid ps fixedLength values in
     let size : ℕ = fixedLength + length xs in
@@ -134,10 +106,11 @@ read-back rules edition reader word values frame ok servedReader later w =
     let last : size ≡ lastEnd fixedLength ps = length-laid fixedLength ps values a (omega arith) in
     let sized : lengthIn s ≡ size = read-after-write little 2 size (omega arith) in
     let worded : numberAt little 4 s 4 ≡ word = read-after-write little 4 word (w .word32) in
-    let header : fixedHeader s ≡ given size = fixed-given s size refl sized (omega arith) (omega arith) in
+    let header : fixedHeader s ≡ given size =
+    fixed-exactly s .accepted size .1 (record { version = refl; told = sized; least = omega arith; inside = omega arith }) in
     let words : presenceWords s size ≡ given (word ∷ []) = one-word s size word worded (bit-31-clear rules edition word (w .known)) in
     let walk : fieldsOf rules e s size (word ∷ []) ≡ shown (laidFields ps fixedLength values) ended =
-    sym (later-fields rules edition e later word s size (w .known))
+    sym (later-fields rules edition e (served-grows rules edition reader ok nests servedReader later) word s size (w .known))
     ∙ walk-shows s size fixedLength ps (fieldsOf rules edition s size (word ∷ []))
     (walked rules edition s size word ok (omega arith)) (w .known) (omega arith)
     ∙ ap (λ (fs : List Field). shown fs ended) (laid-planned s fixedLength ps values frame a (omega arith) refl) in

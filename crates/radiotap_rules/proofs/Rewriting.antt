@@ -2,17 +2,15 @@
 -- Assumes nothing.
 use Prim.Native.Nat.{ℕ, _+_, _-_, _^_, _≤_, _<_}
 use mathlib.Core.Path.{_≡_, refl, sym, ap, _∙_, subst}
-use mathlib.Core.Bool.{Bool, true, false, cond, _&&_, and-eq-true-iff}
+use mathlib.Core.Bool.{Bool, true}
 use mathlib.Core.Logic.{_↔_}
 use mathlib.Core.List.{List, [], _∷_, _++_, append-cancel-left}
 use native.Mathlib.Omega.{arith}
 use native.Mathlib.Nat.{sub-self}
 use lib.ListN.{length, getD, take, drop, replicate, length-append, length-replicate, getD-replicate}
 use lib.Seq.{take-at, drop-at, take-add, drop-drop, getD-take, getD-drop, ext-getD}
-use lib.Dec.{leb, ltb, eqb}
-use borrow.Author.Tests.{leb-true, le-leb, eqb-true, eq-eqb}
-use Rattle.refusals.specs.Refusals.{Answer, refused, given, shortHeader}
-use Rattle.refusals.proofs.Orders.{chosen}
+use borrow.Author.Tests.{le-leb, eq-eqb}
+use Rattle.refusals.specs.Refusals.{given}
 use Rattle.octets.specs.Numbers.{little, octetsOf, octetsAt, numberAt, Octets}
 use Rattle.octets.specs.Parts.{part, splice}
 use Rattle.octets.proofs.Laws.{write-after-read, range, octets-append, octets-take, octets-drop}
@@ -26,7 +24,7 @@ use Rattle.radiotap_rules.proofs.Words.{words-at, last-calls-none}
 use Rattle.radiotap_rules.proofs.Unstopped.{walk-writable}
 use Rattle.radiotap_rules.proofs.TableTests.{taken-served}
 use Rattle.radiotap_rules.proofs.Places.{length-told}
-use Rattle.radiotap_rules.proofs.Planning.{Aligned, aligned-after, plan-aligned, end-after, length-laid, length-header, plannedFields, WalkedTo, walked}
+use Rattle.radiotap_rules.proofs.Planning.{Aligned, aligned-after, plan-aligned, end-after, length-laid, header-ends, plannedFields, WalkedTo, walked}
 
 -- a part of an input is its first part and the part behind that
 part-add : (s : List ℕ) (at m n : ℕ) → part s at (m + n) ≡ part s at m ++ part s (at + m) n
@@ -135,25 +133,6 @@ module _ (s : List ℕ) where
       ap (λ (k : ℕ). endOf (place + k) (plannedFields s (place + size) ps)) (length-part s place size inside)
       ∙ planned-end (place + size) ps (a .1) h
 
--- what a fixed header that is accepted holds
-record Fixed (s : List ℕ) (size : ℕ) : Type 0 where
-  version : getD s 0 0 ≡ 0
-  sized : lengthIn s ≡ size
-  low : fixedLength ≤ size
-
-fixed-back : (s : List ℕ) (size : ℕ) → fixedHeader s ≡ given size → Fixed s size
-unfolding fixedHeader
-fixed-back s size e =
-    let versioned = chosen (eqb (getD s 0 0) 0) _ _ (long (ltb (length s) fixedLength) _ e) in
-    let fits = chosen (leb fixedLength (lengthIn s) && leb (lengthIn s) (length s)) _ _ (versioned .1) in
-    let low : fixedLength ≤ lengthIn s = leb-true fixedLength (lengthIn s) (and-eq-true-iff _ _ .0 (fits .0) .0) in
-    let sized : lengthIn s ≡ size = cc in
-    record { version = eqb-true (getD s 0 0) 0 (versioned .0); sized = sized; low = omega arith }
-  where
-    long : (t : Bool) (x : Answer ℕ) → cond t (refused shortHeader (length s)) x ≡ given size → x ≡ given size
-    long true x e = let z : _≡_ {A = ℕ} 0 1 = cc in absurd (omega arith)
-    long false x e = e
-
 -- where one presence word is given, it is the number at the first word's place
 word-back : (s : List ℕ) (size word : ℕ) → presenceWords s size ≡ given (word ∷ []) → numberAt little 4 s 4 ≡ word
 word-back s size word e = sym (words-at s size (word ∷ []) e 0 (omega arith))
@@ -168,11 +147,11 @@ header-back : (s : List ℕ) (size word : ℕ) → Octets s → fixedHeader s �
     → take size s ≡ 0 ∷ getD s 1 0 ∷ (octetsOf little 2 size ++ (octetsOf little 4 word ++ part s fixedLength (size - fixedLength)))
 unfolding numberAt part
 header-back s size word o header words =
-    let fixed = fixed-back s size header in
-    let input : size ≤ length s = length-told s size header .inside in
-    let low : fixedLength ≤ size = fixed .low in
+    let fixed = length-told s size header in
+    let input : size ≤ length s = fixed .inside in
+    let low : fixedLength ≤ size = fixed .least in
     let two : octetsOf little 2 size ≡ octetsAt s 2 2 =
-    rw (← fixed .sized) (write-after-read little (octetsAt s 2 2) (octets-at s 2 2 (omega arith) o)) in
+    rw (← fixed .told) (write-after-read little (octetsAt s 2 2) (octets-at s 2 2 (omega arith) o)) in
     let four : octetsOf little 4 word ≡ octetsAt s 4 4 =
     rw (← word-back s size word words) (write-after-read little (octetsAt s 4 4) (octets-at s 4 4 (omega arith) o)) in
     let sum : size ≡ fixedLength + (size - fixedLength) = omega arith in
@@ -231,36 +210,33 @@ module _ (rules : Rules) (edition : ℕ) (s : List ℕ) (size word : ℕ) (fs : 
   planned : (fs ≡ plannedFields s fixedLength (plan rules taken word)) × (lastEnd fixedLength (plan rules taken word) ≤ size)
   planned =
       walk-planned s size fixedLength (plan rules taken word) (writable rules taken word) (fieldsOf rules taken s size (word ∷ [])) fs
-      (walked rules taken s size word ok (fixed-back s size (one .header) .low)) ends
+      (walked rules taken s size word ok (length-told s size (one .header) .least)) ends
 
   -- the values that are written
   abbrev values : List ℕ
   values = joined (plannedFields s fixedLength (plan rules taken word))
 
-  -- the octets that are written reach to where the last field ends
-  header-ends : length (headerOctets rules taken word values) ≡ lastEnd fixedLength (plan rules taken word)
-  header-ends =
-      let ps : List Planned = plan rules taken word in
-      let a : Aligned ps = plan-aligned rules taken word ok in
+  -- they have the summed length
+  values-long : length values ≡ summed (plan rules taken word)
+  values-long =
       let input : size ≤ length s = length-told s size (one .header) .inside in
-      let summedUp = length-values s fixedLength ps a (omega (arith, planned .1)) in
-      length-header rules taken word values ∙ length-laid fixedLength ps values a (omega arith)
+      length-values s fixedLength (plan rules taken word) (plan-aligned rules taken word ok) (omega (arith, planned .1))
 
   -- the writer accepts the word and the values
   accepts : Writable rules taken word values
   unfolding numberAt
   accepts =
-      let input : size ≤ length s = length-told s size (one .header) .inside in
-      let fixed = fixed-back s size (one .header) in
-      let low : fixedLength ≤ size = fixed .low in
+      let fixed = length-told s size (one .header) in
+      let input : size ≤ length s = fixed .inside in
+      let low : fixedLength ≤ size = fixed .least in
       let last : lastEnd fixedLength (plan rules taken word) ≤ size = planned .1 in
       let short : lengthIn s < 256 ^ 2 = range little (octetsAt s 2 2) (octets-at s 2 2 (omega arith) o) in
       record {
         known = walk-writable rules taken s size word fs (one .clear) (last-calls-none s size (word ∷ []) (one .words)) ends;
-        long = length-values s fixedLength (plan rules taken word) (plan-aligned rules taken word ok) (omega arith);
+        long = values-long;
         word32 = rw (← word-back s size word (one .words)) (range little (octetsAt s 4 4) (octets-at s 4 4 (omega arith) o));
         octets = octets-planned s fixedLength (plan rules taken word) o;
-        short = omega (arith, header-ends, fixed .sized);
+        short = omega (arith, header-ends rules taken word values ok values-long, fixed .told);
       }
 
   -- its octets are the header's own exactly when the pad octets are all 0 and the length ends at the last field
@@ -274,9 +250,9 @@ module _ (rules : Rules) (edition : ℕ) (s : List ℕ) (size word : ℕ) (fs : 
       let a : Aligned ps = plan-aligned rules taken word ok in
       let last : lastEnd fixedLength ps ≤ size = planned .1 in
       let input : size ≤ length s = length-told s size (one .header) .inside in
-      let low : fixedLength ≤ size = fixed-back s size (one .header) .low in
+      let low : fixedLength ≤ size = length-told s size (one .header) .least in
       let xs : List ℕ = laid ps fixedLength values in
-      let summedUp = length-values s fixedLength ps a (omega arith) in
+      let summedUp : length values ≡ summed ps = values-long in
       let ends : fixedLength + length xs ≡ lastEnd fixedLength ps = length-laid fixedLength ps values a (omega arith) in
       let own = laid-own s fixedLength ps a (omega arith) in
       let end : endOf fixedLength (plannedFields s fixedLength ps) ≡ lastEnd fixedLength ps = planned-end s fixedLength ps a (omega arith) in

@@ -8,5 +8,6 @@ pub mod Steps
 pub mod Answers
 pub mod Writing
 pub mod Editions
+pub mod Orders
 pub mod Rewriting
 pub mod Outputs

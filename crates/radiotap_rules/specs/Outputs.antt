@@ -9,7 +9,7 @@ use lib.Dec.{leb, ltb}
 use Rattle.refusals.specs.Refusals.{given}
 use Rattle.octets.specs.Numbers.{Octets}
 use Rattle.octets.specs.Parts.{part}
-use Rattle.radiotap_rules.specs.Rules.{Row, Rules, rowUnknown, everyRow, tableOk, editionTaken, served}
+use Rattle.radiotap_rules.specs.Rules.{Row, Rules, rowUnknown, everyRow, nested, tableOk, editionTaken, served}
 use Rattle.radiotap_rules.specs.Reading.{fixedLength, wordBits, Field, ended, reading, read}
 use Rattle.radiotap_rules.specs.Writing.{plan, laidFields, writing, written}
 
@@ -52,6 +52,6 @@ WrittenReadsBack rules = (out : List ℕ) (at next edition reader word : ℕ) (v
     → writing rules (length out) at edition word values ≡ given next
     → ReadsBack rules out at next edition reader word values
 
--- under every table that passes both tests
+-- under every table that passes the tests
 abbrev pub EveryTableReadsBack : Type 0
-EveryTableReadsBack = (rules : Rules) (most : ℕ) → tableOk rules ≡ true → lengthFits most rules ≡ true → WrittenReadsBack rules
+EveryTableReadsBack = (rules : Rules) (most : ℕ) → tableOk rules ≡ true → nested rules ≡ true → lengthFits most rules ≡ true → WrittenReadsBack rules

@@ -8,7 +8,7 @@ use lib.ListN.{length, take, getD}
 use Rattle.refusals.specs.Refusals.{given}
 use Rattle.octets.specs.Numbers.{Octets}
 use Rattle.octets.specs.Parts.{splice}
-use Rattle.radiotap_rules.specs.Rules.{Rules, tableOk, editionTaken, served}
+use Rattle.radiotap_rules.specs.Rules.{Rules, nested, tableOk, editionTaken, served}
 use Rattle.radiotap_rules.specs.Reading.{fixedLength, fixedHeader, presenceWords, bitSet, aligned, Field, ended, reading, read}
 use Rattle.radiotap_rules.specs.Writing.{Planned, writable, plan, summed, laidFields, headerOctets, writing, written}
 
@@ -23,7 +23,7 @@ pub record Writable (rules : Rules) (edition word : ℕ) (values : List ℕ) : T
 
 -- read back in the writing edition or a later one, the same fields come out, and the frame behind them
 abbrev pub ReadBack : Type 0
-ReadBack = (rules : Rules) (edition reader word : ℕ) (values frame : List ℕ) → tableOk rules ≡ true → served rules reader ≡ true
+ReadBack = (rules : Rules) (edition reader word : ℕ) (values frame : List ℕ) → tableOk rules ≡ true → nested rules ≡ true → served rules reader ≡ true
     → edition ≤ editionTaken (rules .readingDefault) reader → Writable rules edition word values
     → reading rules reader (headerOctets rules edition word values ++ frame)
     ≡ read (laidFields (plan rules edition word) fixedLength values) ended frame
