@@ -1,15 +1,15 @@
 -- Demand 3: readings in an older and a newer edition agree on every input.
 -- Assumes nothing.
 use Prim.Native.Nat.{ℕ, zero, suc, _+_, _≤_, _<_}
-use mathlib.Core.Path.{_≡_, refl, ap, _∙_, subst₂}
+use mathlib.Core.Path.{_≡_, refl, sym, ap, _∙_, subst₂}
 use mathlib.Core.Logic.{inl, inr}
 use mathlib.Core.List.{List, [], _∷_, _++_}
 use native.Mathlib.Omega.{arith}
 use native.Mathlib.Decide.{decLt}
 use lib.ListN.{length}
 use Rattle.radiotap_rules.specs.Rules.{Row, Rules, editionTaken}
-use Rattle.radiotap_rules.specs.Reading.{wordAt, bitAt, Meaning, nothing, unknownHere, field, meaning, Field, Ending, ended, stopped, Walk, refusedAt, shown, withField, onField, onMeaning, fieldsFrom, Reading, refusedBefore, refusedAtField, read, frameOf, readWalk, reading, noField, nth}
-use Rattle.radiotap_rules.proofs.Walks.{fieldAt, on-field, by-walks}
+use Rattle.radiotap_rules.specs.Reading.{wordAt, bitAt, Meaning, nothing, unknownHere, field, meaning, Field, Ending, ended, stopped, Walk, refusedAt, shown, withField, onField, onMeaning, fieldsFrom, Reading, refusedBefore, refusedAtField, read, frameOf, readWalk, noField, nth}
+use Rattle.radiotap_rules.proofs.Walks.{fieldAt, on-field, by-walks, served-reads}
 use Rattle.radiotap_rules.proofs.TableTests.{ours-pass}
 use Rattle.radiotap_rules.proofs.Nesting.{Grows, served-grows, Means, alike, newly, means}
 use Rattle.radiotap_rules.specs.Table.{ourRules}
@@ -173,9 +173,8 @@ agree-walks s size (stopsBy {fs} {w} {b} {w′} {b′} {p} h) =
 
 -- demand 3: an older and a newer served edition agree on every input
 pub demand-3 : Demand3
-unfolding reading
 demand-3 rules older newer s ok nests servedOlder servedNewer l =
-    rw (servedOlder, servedNewer)
+    subst₂ Agree (sym (served-reads rules older s servedOlder)) (sym (served-reads rules newer s servedNewer))
     (by-walks s (λ readIn. Agree (readIn rules o) (readIn rules n))
     agree-before
     (λ size h words left q at. agree-walks s size (beside rules s size words o n grows left q at)))

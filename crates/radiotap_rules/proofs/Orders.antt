@@ -1,7 +1,7 @@
 -- Each refusal of reading, before the first field, and of writing is given exactly when its condition holds: test by test
 -- in their order, each answer is shown with its condition, and each condition gives its answer.
 -- Assumes nothing.
-use Prim.Native.Nat.{ℕ, _≤_, _<_}
+use Prim.Native.Nat.{ℕ, _≤_}
 use mathlib.Core.Path.{_≡_, refl, sym, ap, _∙_, subst, subst₂}
 use mathlib.Core.Bool.{Bool, true, false, cond, _&&_, and-false}
 use mathlib.Core.Logic.{_⊎_, inl, inr}
@@ -15,6 +15,7 @@ use Rattle.radiotap_rules.specs.Rules.{Rules, editionTaken, served}
 use Rattle.radiotap_rules.specs.Reading.{fixedLength, lengthIn, fixedHeader, presenceWords, Walk, refusedAt, shown, Reading, refusedBefore, refusedAtField, read, readFixed, readWords, readWalk, fieldsOf, reading}
 use Rattle.radiotap_rules.specs.Words.{Exactly}
 use Rattle.radiotap_rules.specs.Orders.{FixedHeader, FixedRefused, tooShort, otherVersion, wrongLength, FixedExactly, BeforeFields, readAbove, atFixedHeader, atNinthWord, atWordPast, BeforeExactly}
+use Rattle.radiotap_rules.proofs.Walks.{served-reads, unserved-refused}
 use Rattle.radiotap_rules.proofs.Words.{words-exactly}
 
 -- an answer of the fixed header, with its condition
@@ -100,7 +101,6 @@ module _ (rules : Rules) (edition : ℕ) (s : List ℕ) where
   ReadTold (read fs e frame) = Unit {0}
 
   read-told : ReadTold (reading rules edition s)
-  unfolding reading
   read-told = on-edition (served rules edition) refl
     where
       taken : ℕ
@@ -119,21 +119,18 @@ module _ (rules : Rules) (edition : ℕ) (s : List ℕ) where
       on-fixed l (refused number place) h = atFixedHeader l h
       on-fixed l (given size) h = on-words l size h (presenceWords s size) refl
 
-      on-edition : (t : Bool) → served rules edition ≡ t
-          → ReadTold (cond t (readFixed rules taken s (fixedHeader s)) (refusedBefore 15 0))
-      on-edition true e = on-fixed (leb-true _ _ e) (fixedHeader s) (fixed-told s)
-      on-edition false e = readAbove (leb-false _ _ e)
+      on-edition : (t : Bool) → served rules edition ≡ t → ReadTold (reading rules edition s)
+      on-edition true e =
+          subst ReadTold (sym (served-reads rules edition s e)) (on-fixed (leb-true _ _ e) (fixedHeader s) (fixed-told s))
+      on-edition false e = subst ReadTold (sym (unserved-refused rules edition s e)) (readAbove (leb-false _ _ e))
 
   -- and each condition gives its refusal
-  read-above : rules .newest < edition → reading rules edition s ≡ refusedBefore 15 0
-  unfolding reading
-  read-above l = rw (lt-leb edition (rules .newest) l)
-
   module _ (l : edition ≤ rules .newest) where
     read-fixed : (x : Answer ℕ) → fixedHeader s ≡ x
         → reading rules edition s ≡ readFixed rules (editionTaken (rules .readingDefault) edition) s x
-    unfolding reading
-    read-fixed x e = rw (le-leb edition (rules .newest) l) (ap (readFixed rules (editionTaken (rules .readingDefault) edition) s) e)
+    read-fixed x e =
+        served-reads rules edition s (le-leb edition (rules .newest) l)
+        ∙ ap (readFixed rules (editionTaken (rules .readingDefault) edition) s) e
 
     read-words : (size : ℕ) → FixedHeader s size → (x : Answer (List ℕ)) → presenceWords s size ≡ x
         → reading rules edition s ≡ readWords rules (editionTaken (rules .readingDefault) edition) s size x
@@ -142,7 +139,7 @@ module _ (rules : Rules) (edition : ℕ) (s : List ℕ) where
         ∙ ap (readWords rules (editionTaken (rules .readingDefault) edition) s size) e
 
   read-refused : {number place : ℕ} → BeforeFields rules edition s number place → reading rules edition s ≡ refusedBefore number place
-  read-refused (readAbove l) = read-above l
+  read-refused (readAbove l) = unserved-refused rules edition s (lt-leb edition (rules .newest) l)
   read-refused (atFixedHeader {number} {place} l h) = read-fixed l (refused number place) (fixed-refused s h)
   read-refused (atNinthWord {size} l h calls) = read-words l size h (refused 11 4) (words-exactly s size (h .least) .ninth .1 calls)
   read-refused (atWordPast {size} l h calls) = read-words l size h (refused 10 4) (words-exactly s size (h .least) .past .1 calls)

@@ -1,7 +1,7 @@
 -- Where the fields of a reading lie, and how long they are.
 -- Assumes nothing.
 use Prim.Native.Nat.{ℕ, zero, suc, _+_, _≤_}
-use mathlib.Core.Path.{_≡_, refl, subst}
+use mathlib.Core.Path.{_≡_, refl, sym, _∙_, subst}
 use mathlib.Core.Bool.{Bool, true, false, cond}
 use mathlib.Core.List.{List, [], _∷_}
 use native.Mathlib.Omega.{arith}
@@ -9,13 +9,13 @@ use lib.ListN.{length}
 use Rattle.refusals.specs.Refusals.{given}
 use Rattle.octets.specs.Parts.{part}
 use Rattle.octets.proofs.PartLaws.{length-part}
-use Rattle.radiotap_rules.specs.Rules.{Rules, rowOf, knows, editionTaken, served}
-use Rattle.radiotap_rules.specs.Reading.{fixedHeader, bitAt, rowNumber, Meaning, nothing, unknownHere, field, meaning, Field, Walk, refusedAt, shown, withField, onMeaning, fieldsFrom, Reading, refusedBefore, refusedAtField, read, readWalk, reading}
+use Rattle.radiotap_rules.specs.Rules.{Rules, rowOf, knows, editionTaken}
+use Rattle.radiotap_rules.specs.Reading.{fixedHeader, bitAt, rowNumber, Meaning, nothing, unknownHere, field, meaning, Field, Walk, refusedAt, shown, withField, onMeaning, fieldsFrom, Reading, refusedBefore, refusedAtField, read, readWalk}
 use Rattle.radiotap_rules.specs.Fields.{Lies, AllLie, Inside, FieldsInside}
 use Rattle.radiotap_rules.specs.Orders.{FixedHeader}
 use Rattle.radiotap_rules.proofs.Meanings.{number-bit}
 use Rattle.radiotap_rules.proofs.Orders.{fixed-exactly}
-use Rattle.radiotap_rules.proofs.Walks.{fieldAt, on-field, by-meaning, by-walks}
+use Rattle.radiotap_rules.proofs.Walks.{fieldAt, on-field, by-meaning, by-walks, served-reads, read-served}
 
 either : {A : Type 0} (P : A → Type 0) (t : Bool) (x y : A) → (t ≡ true → P x) → P y → P (cond t x y)
 either P true x y h h′ = h refl
@@ -85,17 +85,13 @@ ReadingLies rules s (read fs e frame) = Inside rules s fs
 
 -- every field that a reading shows is as long as its row says and lies inside the length that the fixed header gives
 pub fields-inside : FieldsInside
-unfolding reading
 fields-inside rules edition s fs e frame h =
-    subst (ReadingLies rules s) h
-    (either (ReadingLies rules s) (served rules edition) _ _
-    (λ t.
-    by-walks s (λ readIn. ReadingLies rules s (readIn rules (editionTaken (rules .readingDefault) edition)))
+    subst (ReadingLies rules s) (sym (served-reads rules edition s (read-served rules edition s fs e frame h)) ∙ h)
+    (by-walks s (λ readIn. ReadingLies rules s (readIn rules (editionTaken (rules .readingDefault) edition)))
     (λ number place. tt)
     (λ size header words left q at.
     let input : size ≤ length s = length-told s size header .inside in
     go size header input (fieldsFrom rules _ s size words left q at) (lies-walk rules s size input _ words left q at)))
-    tt)
   where
     go : (size : ℕ) → fixedHeader s ≡ given size → size ≤ length s → (x : Walk) → WalkLies rules s size x
         → ReadingLies rules s (readWalk s size x)

@@ -13,9 +13,10 @@ use Rattle.octets.specs.Parts.{part}
 use Rattle.octets.proofs.Laws.{read-after-write}
 use Rattle.octets.proofs.Fields.{past}
 use Rattle.radiotap_rules.specs.Rules.{Rules, editionTaken}
-use Rattle.radiotap_rules.specs.Reading.{fixedLength, lengthIn, fixedHeader, bitSet, wordBits, wordsFrom, presenceWords, Meaning, meaning, aligned, Field, ended, stopped, Walk, refusedAt, shown, onMeaning, fieldsFrom, fieldsOf, readWalk, readWords, readFixed, reading}
+use Rattle.radiotap_rules.specs.Reading.{fixedLength, lengthIn, fixedHeader, bitSet, wordBits, wordsFrom, presenceWords, Meaning, meaning, aligned, Field, ended, stopped, Walk, refusedAt, shown, onMeaning, fieldsFrom, fieldsOf, readWalk}
 use Rattle.radiotap_rules.specs.Writing.{isField, writableAt, writableFrom, writable, Planned, plan, summed, laid, laidFields, headerOctets}
 use Rattle.radiotap_rules.specs.Rewriting.{lastEnd, ReadBack}
+use Rattle.radiotap_rules.proofs.Walks.{served-walk}
 use Rattle.radiotap_rules.proofs.Nesting.{Grows, served-grows, Means, alike, newly, means}
 use Rattle.radiotap_rules.proofs.Orders.{fixed-exactly}
 use Rattle.radiotap_rules.proofs.WriteOrders.{writable-known}
@@ -94,7 +95,7 @@ walk-shows s size at ps (shown fs (stopped w b)) h known l = let z : _≡_ {A = 
 
 -- written in an edition and read in it or a later one, the same fields come out, and the frame behind them
 pub read-back : ReadBack
-unfolding headerOctets octetsOf numberAt reading
+unfolding headerOctets octetsOf numberAt
 read-back rules edition reader word values frame ok nests servedReader later w =
     let ps : List Planned = plan rules edition word in
     let xs : List ℕ = laid ps fixedLength values in
@@ -115,4 +116,4 @@ read-back rules edition reader word values frame ok nests servedReader later w =
     (walked rules edition s size word ok (omega arith)) (w .known) (omega arith)
     ∙ ap (λ (fs : List Field). shown fs ended) (laid-planned s fixedLength ps values frame a (omega arith) refl) in
     let behind : drop size s ≡ frame = past s fixedLength size xs frame refl refl in
-    rw servedReader (ap (readFixed rules e s) header ∙ ap (readWords rules e s size) words ∙ ap (readWalk s size) walk ∙ rw behind)
+    served-walk rules reader s size (word ∷ []) header words servedReader ∙ ap (readWalk s size) walk ∙ rw behind

@@ -1,15 +1,15 @@
 -- Readings and writings under two tables that agree on what an edition knows.
 -- Assumes nothing.
 use Prim.Native.Nat.{ℕ, zero, suc}
-use mathlib.Core.Path.{_≡_, refl, ap, ap₂, fun-ext}
+use mathlib.Core.Path.{_≡_, refl, sym, ap, ap₂, _∙_, fun-ext}
 use mathlib.Core.Bool.{Bool, true, false, cond, _&&_}
 use mathlib.Core.List.{List, [], _∷_}
 use native.Mathlib.Omega.{arith}
 use lib.ListN.{length}
 use Rattle.radiotap_rules.specs.Rules.{Rules, rowOf, knows, editionTaken, served}
-use Rattle.radiotap_rules.specs.Reading.{bitSet, wordBits, rowNumber, Meaning, unknownHere, field, meaning, onMeaning, fieldsFrom, readWalk, reading}
+use Rattle.radiotap_rules.specs.Reading.{bitSet, wordBits, rowNumber, Meaning, unknownHere, field, meaning, onMeaning, fieldsFrom, fixedHeader, readWalk, readFixed}
 use Rattle.radiotap_rules.specs.Writing.{isField, writableFrom, writable, withPlan, planFrom, plan, headerOctets, writing, written}
-use Rattle.radiotap_rules.proofs.Walks.{by-meaning, by-walks}
+use Rattle.radiotap_rules.proofs.Walks.{by-meaning, by-walks, served-reads}
 use Rattle.radiotap_rules.specs.Editions.{SameTable, SameReadings, SameWritings}
 
 module _ (rules rules′ : Rules) (edition : ℕ) (table : SameTable rules rules′ edition) where
@@ -60,12 +60,13 @@ module _ (rules rules′ : Rules) (edition : ℕ) (table : SameTable rules rules
 
 -- readings agree wherever two tables agree on what the edition knows
 pub same-readings : SameReadings
-unfolding reading
 same-readings rules rules′ edition s servedHere servedThere taken table =
-    rw (servedHere, servedThere, ← taken)
-    (by-walks s (λ readIn. readIn rules e ≡ readIn rules′ e)
+    served-reads rules edition s servedHere
+    ∙ by-walks s (λ readIn. readIn rules e ≡ readIn rules′ e)
     (λ number place. refl)
-    (λ size h words left q at. ap (readWalk s size) (same-walk rules rules′ e table s size words left q at)))
+    (λ size h words left q at. ap (readWalk s size) (same-walk rules rules′ e table s size words left q at))
+    ∙ ap (λ (k : ℕ). readFixed rules′ k s (fixedHeader s)) taken
+    ∙ sym (served-reads rules′ edition s servedThere)
   where
     e : ℕ
     e = editionTaken (rules .readingDefault) edition

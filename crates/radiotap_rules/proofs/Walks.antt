@@ -82,24 +82,34 @@ by-walks s P before walked = onFixed (fixedHeader s) refl
     onFixed (refused number place) e = before number place
     onFixed (given size) e = onWords size e (presenceWords s size)
 
--- a served edition reads the whole walk over the presence words
-pub served-walk : (rules : Rules) (edition : ℕ) (s : List ℕ) (size : ℕ) (ws : List ℕ) → fixedHeader s ≡ given size
-    → presenceWords s size ≡ given ws → served rules edition ≡ true
-    → reading rules edition s ≡ readWalk s size (fieldsOf rules (editionTaken (rules .readingDefault) edition) s size ws)
-unfolding reading
-served-walk rules edition s size ws header words e =
-    let taken : ℕ = editionTaken (rules .readingDefault) edition in
-    rw e (ap (readFixed rules taken s) header ∙ ap (readWords rules taken s size) words)
+module _ (rules : Rules) (edition : ℕ) (s : List ℕ) where
+  -- a served edition reads as the one that it is taken for
+  pub served-reads : served rules edition ≡ true
+      → reading rules edition s ≡ readFixed rules (editionTaken (rules .readingDefault) edition) s (fixedHeader s)
+  unfolding reading
+  served-reads e = rw e
 
--- a reading that shows fields is of a served edition
-pub read-served : (rules : Rules) (edition : ℕ) (s : List ℕ) (fs : List Field) (e : Ending) (frame : List ℕ)
-    → reading rules edition s ≡ read fs e frame → served rules edition ≡ true
-unfolding reading
-read-served rules edition s fs e frame = go (served rules edition) _
-  where
-    go : (t : Bool) (x : Reading) → cond t x (refusedBefore editionAbove 0) ≡ read fs e frame → t ≡ true
-    go true x h = refl
-    go false x h = let z : _≡_ {A = ℕ} 0 1 = cc in absurd (omega arith)
+  -- any other is refused before all else
+  pub unserved-refused : served rules edition ≡ false → reading rules edition s ≡ refusedBefore editionAbove 0
+  unfolding reading
+  unserved-refused e = rw e
+
+  -- so a reading that shows fields is of a served edition
+  pub read-served : (fs : List Field) (e : Ending) (frame : List ℕ) → reading rules edition s ≡ read fs e frame
+      → served rules edition ≡ true
+  read-served fs e frame h = go (served rules edition) refl
+    where
+      go : (t : Bool) → served rules edition ≡ t → t ≡ true
+      go true serves = refl
+      go false above = let other = unserved-refused above in let z : _≡_ {A = ℕ} 0 1 = cc in absurd (omega arith)
+
+  -- it reads the whole walk over the presence words
+  pub served-walk : (size : ℕ) (ws : List ℕ) → fixedHeader s ≡ given size → presenceWords s size ≡ given ws
+      → served rules edition ≡ true
+      → reading rules edition s ≡ readWalk s size (fieldsOf rules (editionTaken (rules .readingDefault) edition) s size ws)
+  served-walk size ws header words e =
+      let taken : ℕ = editionTaken (rules .readingDefault) edition in
+      served-reads e ∙ ap (readFixed rules taken s) header ∙ ap (readWords rules taken s size) words
 
 -- and its walk shows them
 pub read-shown : (rules : Rules) (edition : ℕ) (s : List ℕ) (size : ℕ) (ws : List ℕ) (fs : List Field) (e : Ending) (frame : List ℕ)

@@ -1,5 +1,6 @@
 -- Each answer of writing is given exactly when its condition holds: the presence word is judged bit by bit, then test by
--- test in their order each answer is shown with its condition, and each condition gives its answer.
+-- test in their order each answer is shown with its condition, and each condition gives its answer. So 15 comes before all
+-- else in reading and writing.
 -- Assumes nothing.
 use Prim.Native.Nat.{ℕ, zero, suc, _+_, _≤_, _<_}
 use mathlib.Core.Path.{_≡_, refl, ap, _∙_, subst}
@@ -222,8 +223,8 @@ pub edition-above : EditionAbove
 edition-above rules edition l =
     record {
       reads = reads;
-      summed = λ s. ap (summary s) (reads s);
-      field = λ s k. ap (λ (r : Reading). fieldOf r k) (reads s);
+      whole = λ s. ap (summary s) (reads s);
+      numbered = λ s k. ap (λ (r : Reading). fieldOf r k) (reads s);
       octets = λ s k. ap (λ (r : Reading). octetsOfField (fieldOf r k)) (reads s);
       dbm = λ s k. ap (λ (r : Reading). dbmOf (fieldOf r k)) (reads s);
       frame = λ s. ap frameIn (reads s);

@@ -98,8 +98,8 @@ WriteExactly = (rules : Rules) (size at edition word : ℕ) (values : List ℕ) 
 -- an edition that is not served gives 15 at place 0 before all else, whatever the octets, and hands out nothing
 pub record NotServed (rules : Rules) (edition : ℕ) : Type 0 where
   pub reads : (s : List ℕ) → reading rules edition s ≡ refusedBefore 15 0
-  pub summed : (s : List ℕ) → summary s (reading rules edition s) ≡ refused 15 0
-  pub field : (s : List ℕ) (k : ℕ) → fieldOf (reading rules edition s) k ≡ refusedField 15 0
+  pub whole : (s : List ℕ) → summary s (reading rules edition s) ≡ refused 15 0
+  pub numbered : (s : List ℕ) (k : ℕ) → fieldOf (reading rules edition s) k ≡ refusedField 15 0
   pub octets : (s : List ℕ) (k : ℕ) → octetsOfField (fieldOf (reading rules edition s) k) ≡ []
   pub dbm : (s : List ℕ) (k : ℕ) → dbmOf (fieldOf (reading rules edition s) k) ≡ refusedDbm 15 0
   pub frame : (s : List ℕ) → frameIn (reading rules edition s) ≡ []
