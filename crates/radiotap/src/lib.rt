@@ -60,13 +60,14 @@ pub fn opened(s: &[u8], edition: u32) -> HeadAnswer
     }
 }
 
-// Counts the fields behind a head in an edition, and so judges the header whole: word by word, and in each word from one
-// bit that is shown to the next.
-fn count(s: &[u8], edition: u32, head: Head) -> ReadAnswer
+// Counts the fields behind a head in the edition taken, and so judges the header whole: word by word, and in each word
+// from one bit that is shown to the next.
+fn count(s: &[u8], taken: u32, head: Head) -> ReadAnswer
     requires { ⌜ headAt (now s) ≡ given head ⌝ }
-    ensures { λ r. ⌜ readSays r ≡ summarised (getD (now (s .entry)) 1 0) head (outcome 0 (readWords ourRules edition (now (s .entry)) (head .size) (presenceWords (now (s .entry)) (head .size)))) ⌝ }
+    ensures { λ r. ⌜ readSays r ≡ summarised (getD (now (s .entry)) 1 0) head (outcome 0 (readWords ourRules taken (now (s .entry)) (head .size) (presenceWords (now (s .entry)) (head .size)))) ⌝ }
 {
-    let known = radiotap_bits::known(edition);
+    let rows = radiotap_table::rows();
+    let known = radiotap_bits::known(taken);
     let pad = octets::octet(s, 1, 0);
     let size = head.size as usize;
     let words = head.words as u32;
@@ -78,7 +79,8 @@ fn count(s: &[u8], edition: u32, head: Head) -> ReadAnswer
         let carried = radiotap_bits::carries(word, known);
         let mut left = carried.shown;
         while left != 0 {
-            let span = radiotap_table::span_of(u32::trailing_zeros(left) as usize);
+            let bit = u32::trailing_zeros(left) as usize;
+            let span = radiotap_table::span_of(rows[bit]);
             let before = last | span.mask;
             last = before + span.size as usize;
             if size <= last {

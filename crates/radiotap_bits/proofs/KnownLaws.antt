@@ -3,27 +3,19 @@
 use Prim.Native.Nat.{ℕ, zero, suc, _+_, _-_, _*_, _/_, _%_, _^_, _≤_, _<_}
 use mathlib.Core.Path.{_≡_, refl, sym, ap, _∙_}
 use mathlib.Core.Bool.{Bool, true, false, cond, _&&_}
-use mathlib.Core.List.{List, [], _∷_, map}
+use mathlib.Core.List.{List, [], map}
 use native.Mathlib.Omega.{arith}
 use native.Mathlib.Nat.{pow-suc}
 use lib.ListN.{getD}
 use lib.Dec.{leb, eqb}
 use lib.Pow.{pow-mono}
 use borrow.Author.Tests.{le-leb, lt-leb}
-use Rattle.radiotap_rules.specs.Rules.{Row, unknown, knows}
+use Rattle.radiotap_rules.specs.Rules.{knows}
 use Rattle.radiotap_rules.specs.Table.{ourRules}
 use Rattle.radiotap_rules.specs.Reading.{bitSet, wordBits}
-use Rattle.radiotap_rows.specs.Rows.{numbersOf}
+use Rattle.radiotap_table.specs.Rows.{numbersOf}
+use Rattle.radiotap_table.proofs.RowLaws.{row-at}
 use Rattle.radiotap_bits.proofs.SetLaws.{bit-shifted, bit-zero}
-
--- what is read of a row in the array is the number of that row; past the rows it is 0, as in an unknown row
-row-read : (rs : List Row) (n k : ℕ) → getD (getD (map numbersOf rs) n []) k 0 ≡ getD (numbersOf (getD rs n unknown)) k 0
-row-read [] n zero = refl
-row-read [] n (suc zero) = refl
-row-read [] n (suc (suc zero)) = refl
-row-read [] n (suc (suc (suc k))) = refl
-row-read (r ∷ rs) zero k = refl
-row-read (r ∷ rs) (suc n) k = row-read rs n k
 
 -- 1 where a field's first edition is some edition that is not later, else 0
 module _ (first edition : ℕ) where
@@ -62,12 +54,13 @@ module _ (edition : ℕ) where
     pub known-small : 0 < from → bits < 2147483648
     known-small h = let room : 2 ^ (wordBits - from) ≤ 2 ^ 31 = pow-mono {j = 31} (omega arith) in omega (arith, k .below)
 
-    pub known-next : (d : ℕ) → 0 < from → d ≡ one (getD (getD (map numbersOf (ourRules .rows)) (from - 1) []) 2 0) edition
+    pub known-next : {rows : List (List ℕ)} → rows ≡ map numbersOf (ourRules .rows) → (d : ℕ) → 0 < from
+        → d ≡ one (getD (getD rows (from - 1) []) 2 0) edition
         → (d ≤ 1) × KnownFrom edition (from - 1) (2 * bits + d)
-    known-next d above e =
+    known-next table d above e =
         let t : Bool = knows ourRules edition (from - 1) in
         let d-told : d ≡ cond t 1 0 =
-        e ∙ ap (λ (first : ℕ). one first edition) (row-read (ourRules .rows) (from - 1) 2) in
+        e ∙ ap (λ (row : List ℕ). one (getD row 2 0) edition) (row-at ourRules table (from - 1) (omega (arith, k .low))) in
         let small : d ≤ 1 = omega (arith, d-told, bit-small t) in
         let lower : wordBits - (from - 1) ≡ suc (wordBits - from) = omega (arith, k .low) in
         let room : 2 ^ (wordBits - (from - 1)) ≡ 2 ^ (wordBits - from) * 2 = rw lower (pow-suc 2 (wordBits - from)) in

@@ -3,7 +3,6 @@ ghost use mathlib.Core.Path.{_≡_};
 ghost use mathlib.Core.Bool.{cond, _&&_};
 ghost use lib.Dec.{leb};
 ghost use Rattle.radiotap_bits.specs.Bits.{NextSet, KnownBits, Carries};
-use radiotap_rows::ROWS;
 
 // The bits of a presence word that carry a field: all but 29 and 31.
 pub const FIELD_BITS: u32 = 0x5fff_ffff;
@@ -29,28 +28,28 @@ pub fn next_set(word: u32, from: u32) -> u32
     from + u32::trailing_zeros(rest)
 }
 
-// The bits that an edition knows, as a presence word: a constant for each edition, gathered at compile time.
-pub fn known(edition: u32) -> u32
-    ensures { λ r. ⌜ KnownBits edition r ⌝ }
+// The bits that the edition taken knows, as a presence word: a constant for each edition, gathered at compile time.
+pub fn known(taken: u32) -> u32
+    ensures { λ r. ⌜ KnownBits taken r ⌝ }
 {
-    match edition {
+    match taken {
         1 => gathered(1),
         2 => gathered(2),
         3 => gathered(3),
-        _ => gathered(edition),
+        _ => gathered(taken),
     }
 }
 
-// The bits that an edition knows, gathered row by row.
-fn gathered(edition: u32) -> u32
-    ensures { λ r. ⌜ KnownBits edition r ⌝ }
+// The bits that the edition taken knows, gathered row by row.
+fn gathered(taken: u32) -> u32
+    ensures { λ r. ⌜ KnownBits taken r ⌝ }
 {
-    let rows = ROWS;
+    let rows = radiotap_table::rows();
     let mut bits: u32 = 0;
     let mut bit: usize = 32;
     while 0 < bit {
         bit -= 1;
-        bits = 2 * bits + knows(rows[bit][2], edition);
+        bits = 2 * bits + knows(rows[bit][2], taken);
     }
     bits
 }
@@ -68,14 +67,14 @@ pub fn carries(word: u32, known: u32) -> Carried
     }
 }
 
-// 1 where an edition knows a field by its first edition, else 0.
-fn knows(first: u8, edition: u32) -> u32
-    ensures { λ r. ⌜ r ≡ cond (leb 1 first && leb first edition) 1 0 ⌝ }
+// 1 where the edition taken knows a field by its first edition, else 0.
+fn knows(first: u8, taken: u32) -> u32
+    ensures { λ r. ⌜ r ≡ cond (leb 1 first && leb first taken) 1 0 ⌝ }
 {
     if first == 0 {
         return 0;
     }
-    if first as u32 > edition {
+    if first as u32 > taken {
         return 0;
     }
     1

@@ -74,14 +74,15 @@ fn room_for(answer: ReadAnswer, most: usize) -> usize
     }
 }
 
-// Walks over the fields behind a head in an edition as `radiotap::read` does, and puts the first of them into a list, as
-// many as there is room for.
-fn list(s: &[u8], edition: u32, head: Head, room: usize, out: &mut [u64]) -> ReadAnswer
+// Walks over the fields behind a head in the edition taken as `radiotap::read` does, and puts the first of them into a
+// list, as many as there is room for.
+fn list(s: &[u8], taken: u32, head: Head, room: usize, out: &mut [u64]) -> ReadAnswer
     requires { ⌜ (headAt (now s) ≡ given head) × (4 * room ≤ length (now out)) ⌝ }
-    ensures { λ r. ⌜ readSays r ≡ summarised (getD (now (s .entry)) 1 0) head (outcome 0 (readWords ourRules edition (now (s .entry)) (head .size) (presenceWords (now (s .entry)) (head .size)))) ⌝ }
-    ensures { λ _. ⌜ now (out .exit) ≡ splice (now (out .entry)) 0 (listed (firstFields ourRules edition (now (s .entry)) room (firstCursor head))) ⌝ }
+    ensures { λ r. ⌜ readSays r ≡ summarised (getD (now (s .entry)) 1 0) head (outcome 0 (readWords ourRules taken (now (s .entry)) (head .size) (presenceWords (now (s .entry)) (head .size)))) ⌝ }
+    ensures { λ _. ⌜ now (out .exit) ≡ splice (now (out .entry)) 0 (listed (firstFields ourRules taken (now (s .entry)) room (firstCursor head))) ⌝ }
 {
-    let known = radiotap_bits::known(edition);
+    let rows = radiotap_table::rows();
+    let known = radiotap_bits::known(taken);
     let pad = octets::octet(s, 1, 0);
     let size = head.size as usize;
     let words = head.words as u32;
@@ -94,7 +95,7 @@ fn list(s: &[u8], edition: u32, head: Head, room: usize, out: &mut [u64]) -> Rea
         let mut left = carried.shown;
         while left != 0 {
             let bit = u32::trailing_zeros(left);
-            let span = radiotap_table::span_of(bit as usize);
+            let span = radiotap_table::span_of(rows[bit as usize]);
             let before = last | span.mask;
             last = before + span.size as usize;
             if size <= last {

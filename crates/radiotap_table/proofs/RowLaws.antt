@@ -1,23 +1,41 @@
 -- What the table's test says of its rows, and where a field lies by its row as it is read.
 -- Assumes nothing.
-use Prim.Native.Nat.{ℕ, _≤_, _<_, _+_, _-_, _%_}
-use mathlib.Core.Path.{_≡_, refl, sym, ap, _∙_}
+use Prim.Native.Nat.{ℕ, zero, suc, _≤_, _<_, _+_, _-_, _%_}
+use mathlib.Core.Path.{_≡_, refl, sym, ap, _∙_, subst}
 use mathlib.Core.Bool.{Bool, true, false, cond}
-use mathlib.Core.List.{List}
+use mathlib.Core.List.{List, [], _∷_, map}
 use native.Mathlib.Omega.{arith}
-use lib.ListN.{getD}
+use lib.ListN.{length, getD, List·getD-eq-default}
 use native.Mathlib.Nat.{div-mul-le-self}
 use lib.Bits.{bitOr}
 use borrow.Author.Tests.{le-leb, lt-leb}
-use Rattle.radiotap_rules.specs.Rules.{Rules, rowOf, knows, alignmentOk, tableOk}
+use Rattle.radiotap_rules.specs.Rules.{Row, Rules, unknown, rowOf, knows, alignmentOk, tableOk}
 use Rattle.radiotap_rules.specs.Table.{ourRules}
 use Rattle.radiotap_rules.specs.Reading.{aligned}
 use Rattle.radiotap_rules.specs.Answers.{unknownField, lies, layOf}
 use Rattle.radiotap_rules.proofs.TableTests.{known-alignment}
-use Rattle.radiotap_rows.specs.Rows.{numbersIn}
+use Rattle.radiotap_table.specs.Rows.{numbersOf, numbersIn}
 use Rattle.radiotap_table.specs.declared.Span.{Span}
-use Rattle.radiotap_table.specs.Says.{SpannedAs, AlignedAs}
+use Rattle.radiotap_table.specs.Says.{SpansRow, SpannedAs, AlignedAs}
 use Rattle.radiotap_table.proofs.RoundLaws.{alignment-above, alignment-most, alignment-filled}
+
+-- the numbers of a row in a list of rows
+mapped-row : (rs : List Row) (n : ℕ) → n < length rs → getD (map numbersOf rs) n [] ≡ numbersOf (getD rs n unknown)
+mapped-row [] n h = absurd (omega arith)
+mapped-row (r ∷ rs) zero h = refl
+mapped-row (r ∷ rs) (suc n) h = mapped-row rs n (omega arith)
+
+-- in the array of a table the row at a bit's index is the row of that bit, and its field takes what that row says
+module _ (rules : Rules) {array : List (List ℕ)} (table : array ≡ map numbersOf (rules .rows)) (n : ℕ) (inside : n < length (rules .rows)) where
+  pub row-at : getD array n [] ≡ numbersIn rules n
+  row-at = ap (λ (xs : List (List ℕ)). getD xs n []) table ∙ mapped-row (rules .rows) n inside
+
+  pub row-spans : {p : Span} → SpansRow (getD array n []) p → SpansRow (numbersIn rules n) p
+  row-spans {p} spans = subst (λ (row : List ℕ). SpansRow row p) row-at spans
+
+-- past the rows there is none
+pub row-past : (rules : Rules) (n : ℕ) → length (rules .rows) ≤ n → 0 ∷ 0 ∷ 0 ∷ [] ≡ numbersIn rules n
+row-past rules n h = ap numbersOf (sym (List·getD-eq-default (rules .rows) unknown {n = n} h))
 
 module _ (rules : Rules) (n : ℕ) where
   module _ (edition at : ℕ) where
@@ -51,10 +69,6 @@ module _ (rules : Rules) (n : ℕ) {r : List ℕ} (reads : r ≡ numbersIn rules
 
   first-read : getD r 2 0 ≡ rowOf rules n .first
   first-read = ap (λ (xs : List ℕ). getD xs 2 0) reads
-
-  -- what the field takes
-  pub row-spans : ((getD r 0 0 + 255) % 256 ≡ (rowOf rules n .alignment + 255) % 256) × (getD r 1 0 ≡ rowOf rules n .size)
-  row-spans = (ap (λ (a : ℕ). (a + 255) % 256) alignment-read, size-read)
 
   -- an edition knows a field whose row, as read, is of some edition that is not later
   pub known : (edition : ℕ) → (getD r 2 0 ≡ 0 → ⊥) → getD r 2 0 ≤ edition → knows rules edition n ≡ true

@@ -2,11 +2,14 @@
 use Prim.Native.Nat.{ℕ, _+_, _%_}
 use mathlib.Core.Path.{_≡_}
 use mathlib.Core.Bool.{true}
-use Rattle.radiotap_rules.specs.Rules.{rowOf, alignmentOk}
+use mathlib.Core.List.{List}
+use lib.ListN.{getD}
+use Rattle.radiotap_rules.specs.Rules.{alignmentOk}
 use Rattle.radiotap_rules.specs.Table.{ourRules}
 use Rattle.radiotap_rules.specs.Reading.{aligned}
-use Rattle.radiotap_rules.specs.Answers.{unknownField, lies}
+use Rattle.radiotap_rules.specs.Answers.{unknownField, lies, layOf}
 use Rattle.radiotap_rules.specs.Answers.{Layout as LayoutOf}
+use Rattle.radiotap_table.specs.Rows.{numbersIn}
 use Rattle.radiotap_table.specs.declared.Layout.{Layout}
 use Rattle.radiotap_table.specs.declared.Span.{Span}
 
@@ -15,9 +18,18 @@ abbrev pub laySays : Layout → LayoutOf
 laySays Layout.Unknown = unknownField
 laySays (Layout.Lies start size) = lies start size
 
--- what a field takes by its bit's row: its alignment less one (255 where it has none, as no edition knows it), and its size
+-- where a field lies by the three numbers of its row, whichever bit's row it is
+abbrev pub LaysRow : List ℕ → (taken at : ℕ) → Layout → Type 0
+LaysRow row taken at r = (bit : ℕ) → row ≡ numbersIn ourRules bit → laySays r ≡ layOf ourRules taken bit at
+
+-- what a field takes by the three numbers of its row: its alignment less one (255 where it has none, as no edition knows
+-- it), and its size
+abbrev pub SpansRow : List ℕ → Span → Type 0
+SpansRow row r = (r .mask ≡ (getD row 0 0 + 255) % 256) × (r .size ≡ getD row 1 0)
+
+-- what the field of a bit takes
 abbrev pub SpannedAs : (bit : ℕ) → Span → Type 0
-SpannedAs bit r = (r .mask ≡ (rowOf ourRules bit .alignment + 255) % 256) × (r .size ≡ rowOf ourRules bit .size)
+SpannedAs bit r = SpansRow (numbersIn ourRules bit) r
 
 -- the next multiple of what is an alignment; of 256 for 0
 abbrev pub AlignedAs : (alignment at r : ℕ) → Type 0

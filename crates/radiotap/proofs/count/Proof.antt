@@ -1,16 +1,18 @@
 -- `radiotap::count` meets its contract: the outer loop keeps what was found up to a word (`AtWord`), the inner one where it stands in the
 -- word (`Counting`); each bit that is shown is a field that is met or refused, and behind them the word stops the walk or is passed.
 -- Assumes nothing.
-use Prim.Native.Nat.{_-_}
+use Prim.Native.Nat.{_+_, _-_, _^_, _<_}
 use native.Mathlib.Omega.{arith}
 use mathlib.Core.Path.{sym, ap}
-use lib.Bits.{and-le-r}
+use lib.Bits.{bitOr, and-le-r}
 use lib.Count.{trailingZeros}
 use denote.Ref.{now}
 use borrow.Author.Needs.{needs}
 use Rattle.radiotap_rules.specs.declared.Cursor.{Cursor}
 use Rattle.radiotap_rules.specs.Table.{ourRules}
 use Rattle.radiotap_rules.specs.Reading.{wordBits}
+use Rattle.radiotap_table.specs.Says.{SpannedAs}
+use Rattle.radiotap_table.proofs.RowLaws.{row-spans}
 use Rattle.radiotap.specs.Outcomes.{summarised}
 use Rattle.radiotap.proofs.WalkLaws.{refuses, finishes}
 use Rattle.radiotap.proofs.CountLaws.{AtWord, Counting, word-first, few-words, few-fields, word-opens, stop-inside, stop-none, counts-stop, counts-end, counts-word, counts-small, counts-near, counts-past, counts-next}
@@ -18,18 +20,38 @@ use Rattle.radiotap.proofs.count.Statement.{statement}
 use Rattle.radiotap.proofs.count.Tie as tie
 
 abbrev Inv-loop2 : tie.InvT-loop2
-Inv-loop2 s edition head known pad size words index word last₀ fields₀ carried left₀ last fields left =
-    (c : Cursor) × Counting edition s known size words c index left (trailingZeros wordBits (carried .unknown)) last fields
+Inv-loop2 s taken head rows known pad size words index word last₀ fields₀ carried left₀ last fields left =
+    (c : Cursor) × Counting taken s known size words c index left (trailingZeros wordBits (carried .unknown)) last fields
 
 abbrev μ-loop2 : tie.MeasureT-loop2
-μ-loop2 s edition head known pad size words index word last₀ fields₀ carried left₀ last fields left = left
+μ-loop2 s taken head rows known pad size words index word last₀ fields₀ carried left₀ last fields left = left
 
 abbrev Inv-loop : tie.InvT-loop
-Inv-loop s edition head known pad size words index₀ word₀ last₀ fields₀ index word last fields =
-    (c : Cursor) × AtWord edition s known size words c index word last fields
+Inv-loop s taken head rows known pad size words index₀ word₀ last₀ fields₀ index word last fields =
+    (c : Cursor) × AtWord taken s known size words c index word last fields
 
 abbrev μ-loop : tie.MeasureT-loop
-μ-loop s edition head known pad size words index₀ word₀ last₀ fields₀ index word last fields = words - index
+μ-loop s taken head rows known pad size words index₀ word₀ last₀ fields₀ index word last fields = words - index
+
+-- the lowest bit left is one of the word's
+small : (c : tie.In-loop2 Inv-loop2 μ-loop2 Inv-loop μ-loop) → trailingZeros wordBits (c .before .loop2 .left) < wordBits
+small c =
+    let a = c .before .before .before .before .before .before .before .before .before .before .args in
+    counts-small (a .taken) (now (a .s)) (c .before .before .before .before .before .before .before .known .result) (c .before .loop2 .inv .1) (c .loop2-test .taken)
+
+-- its field takes what its row says
+spans : (c : tie.After-span-of Inv-loop2 μ-loop2 Inv-loop μ-loop) → SpannedAs (trailingZeros wordBits (c .before .before .before .loop2 .left)) (c .span-of .result)
+spans c = row-spans ourRules (c .before .before .before .before .before .before .before .before .before .before .rows .ensures) (trailingZeros wordBits (c .before .before .before .loop2 .left)) (small (c .before .before)) (c .span-of .ensures)
+
+-- and starts not far behind the length
+near : (c : tie.After-span-of Inv-loop2 μ-loop2 Inv-loop μ-loop) → bitOr (c .before .before .before .loop2 .last) (c .span-of .result .mask) < 2 ^ 32 + 43
+near c =
+    let a = c .before .before .before .before .before .before .before .before .before .before .before .before .args in
+    let w = c .before .before .before .loop2 .inv .1 in
+    omega (arith, counts-near (a .taken) (now (a .s)) (c .before .before .before .before .before .before .before .before .before .known .result) w (c .before .before .loop2-test .taken) (spans c), w .sofar .room, c .before .before .before .before .before .before .before .struct-known .given)
+
+rows-requires : tie.Need-rows-requires Inv-loop2 μ-loop2 Inv-loop μ-loop
+rows-requires c κs = search needs
 
 known-requires : tie.Need-known-requires Inv-loop2 μ-loop2 Inv-loop μ-loop
 known-requires c κs = search needs
@@ -54,21 +76,25 @@ add-last c = search needs
 
 loop-holds : tie.Need-loop-holds Inv-loop2 μ-loop2 Inv-loop μ-loop
 loop-holds c =
-    let a = c .before .before .before .before .before .args in
-    (_, word-first (a .edition) (now (a .s)) (c .before .before .before .known .result) (a .head) (c .before .before .before .before .before .pre) (c .before .before .before .known .ensures))
+    let a = c .before .before .before .before .before .before .args in
+    (_, word-first (a .taken) (now (a .s)) (c .before .before .before .known .result) (a .head) (c .before .before .before .before .before .before .pre) (c .before .before .before .known .ensures))
 
 carries-requires : tie.Need-carries-requires Inv-loop2 μ-loop2 Inv-loop μ-loop
 carries-requires c κs = search needs
 
 loop2-holds : tie.Need-loop2-holds Inv-loop2 μ-loop2 Inv-loop μ-loop
 loop2-holds c =
-    let a = c .before .before .before .before .before .before .before .args in
-    (_, word-opens (a .edition) (now (a .s)) (c .before .before .before .before .before .known .result) (c .before .loop .inv .1) (c .carries .ensures))
+    let a = c .before .before .before .before .before .before .before .before .args in
+    (_, word-opens (a .taken) (now (a .s)) (c .before .before .before .before .before .known .result) (c .before .loop .inv .1) (c .carries .ensures))
 
-cast-span-of : tie.Need-cast-span-of Inv-loop2 μ-loop2 Inv-loop μ-loop
-cast-span-of c =
-    let a = c .before .before .before .before .before .before .before .before .before .args in
-    omega (arith, counts-small (a .edition) (now (a .s)) (c .before .before .before .before .before .before .before .known .result) (c .before .loop2 .inv .1) (c .loop2-test .taken))
+cast-bit : tie.Need-cast-bit Inv-loop2 μ-loop2 Inv-loop μ-loop
+cast-bit c = omega (arith, small c)
+
+mul-span-of : tie.Need-mul-span-of Inv-loop2 μ-loop2 Inv-loop μ-loop
+mul-span-of c = omega (arith, small c)
+
+array-copy-out-span-of : tie.Need-array-copy-out-span-of Inv-loop2 μ-loop2 Inv-loop μ-loop
+array-copy-out-span-of c = small c
 
 span-of-requires : tie.Need-span-of-requires Inv-loop2 μ-loop2 Inv-loop μ-loop
 span-of-requires c κs = search needs
@@ -77,63 +103,59 @@ cast-last-2 : tie.Need-cast-last-2 Inv-loop2 μ-loop2 Inv-loop μ-loop
 cast-last-2 c = search needs
 
 add-last-2 : tie.Need-add-last-2 Inv-loop2 μ-loop2 Inv-loop μ-loop
-add-last-2 c =
-    let a = c .before .before .before .before .before .before .before .before .before .before .before .before .args in
-    omega (arith, counts-near (a .edition) (now (a .s)) (c .before .before .before .before .before .before .before .before .before .before .known .result) (c .before .before .before .before .loop2 .inv .1) (c .before .before .before .loop2-test .taken) (c .before .before .span-of .ensures), c .before .before .before .before .loop2 .inv .1 .sofar .room, c .before .before .before .before .before .before .before .before .struct-known .given, c .struct-known4 .given, c .struct-known4 .given)
+add-last-2 c = omega (arith, near (c .before .before), c .struct-known4 .given)
 
-add-t21 : tie.Need-add-t21 Inv-loop2 μ-loop2 Inv-loop μ-loop
-add-t21 c =
-    let a = c .before .before .before .before .before .before .before .before .before .before .before .before .before .args in
-    omega (arith, counts-near (a .edition) (now (a .s)) (c .before .before .before .before .before .before .before .before .before .before .before .known .result) (c .before .before .before .before .before .loop2 .inv .1) (c .before .before .before .before .loop2-test .taken) (c .before .before .before .span-of .ensures), c .before .before .before .before .before .loop2 .inv .1 .sofar .room, c .before .before .before .before .before .before .before .before .before .struct-known .given)
+add-t27 : tie.Need-add-t27 Inv-loop2 μ-loop2 Inv-loop μ-loop
+add-t27 c = omega (arith, near (c .before .before .before))
 
 returns : tie.Need-returns Inv-loop2 μ-loop2 Inv-loop μ-loop
 returns c =
-    let a = c .before .before .before .before .before .before .before .before .before .before .before .before .before .args in
-    let w = c .before .before .before .before .before .loop2 .inv .1 in
-    let step = counts-past (a .edition) (now (a .s)) (c .before .before .before .before .before .before .before .before .before .before .before .known .result) w (c .before .before .before .before .loop2-test .taken) (c .before .before .before .span-of .ensures) (c .if1 .taken) in
-    sym (ap (summarised _ (a .head)) (refuses ourRules (a .edition) (now (a .s)) 0 (w .sofar .found) step))
+    let a = c .before .before .before .before .before .before .before .before .before .before .before .before .before .before .before .args in
+    let w = c .before .before .before .before .before .before .loop2 .inv .1 in
+    let step = counts-past (a .taken) (now (a .s)) (c .before .before .before .before .before .before .before .before .before .before .before .before .known .result) w (c .before .before .before .before .before .loop2-test .taken) (spans (c .before .before .before)) (c .if1 .taken) in
+    sym (ap (summarised _ (a .head)) (refuses ourRules (a .taken) (now (a .s)) 0 (w .sofar .found) step))
 
 add-fields : tie.Need-add-fields Inv-loop2 μ-loop2 Inv-loop μ-loop
 add-fields c =
-    let a = c .before .before .before .before .before .before .before .before .before .before .before .before .before .args in
-    omega (arith, few-fields (a .edition) (now (a .s)) (c .before .before .before .before .before .before .before .before .before .before .before .known .result) (c .before .before .before .before .before .loop2 .inv .1 .sofar))
+    let a = c .before .before .before .before .before .before .before .before .before .before .before .before .before .before .before .args in
+    omega (arith, few-fields (a .taken) (now (a .s)) (c .before .before .before .before .before .before .before .before .before .before .before .before .known .result) (c .before .before .before .before .before .before .loop2 .inv .1 .sofar))
 
 sub-left : tie.Need-sub-left Inv-loop2 μ-loop2 Inv-loop μ-loop
 sub-left c = search needs
 
 loop2-less : tie.Need-loop2-less Inv-loop2 μ-loop2 Inv-loop μ-loop
 loop2-less c =
-    let left = c .before .before .before .before .before .loop2 .left in
-    let some = c .before .before .before .before .loop2-test .taken in
+    let left = c .before .before .before .before .before .before .loop2 .left in
+    let some = c .before .before .before .before .before .loop2-test .taken in
     omega (arith, and-le-r left (left - 1))
 
 loop2-again : tie.Need-loop2-again Inv-loop2 μ-loop2 Inv-loop μ-loop
 loop2-again c =
-    let a = c .before .before .before .before .before .before .before .before .before .before .before .before .before .args in
-    (_, counts-next (a .edition) (now (a .s)) (c .before .before .before .before .before .before .before .before .before .before .before .known .result) (c .before .before .before .before .before .loop2 .inv .1) (c .before .before .before .before .loop2-test .taken) (c .before .before .before .span-of .ensures) (c .if1 .left))
+    let a = c .before .before .before .before .before .before .before .before .before .before .before .before .before .before .before .args in
+    (_, counts-next (a .taken) (now (a .s)) (c .before .before .before .before .before .before .before .before .before .before .before .before .known .result) (c .before .before .before .before .before .before .loop2 .inv .1) (c .before .before .before .before .before .loop2-test .taken) (spans (c .before .before .before)) (c .if1 .left))
 
 returns-2 : tie.Need-returns-2 Inv-loop2 μ-loop2 Inv-loop μ-loop
 returns-2 c =
-    let a = c .before .before .before .before .before .before .before .before .before .before .before .before .args in
+    let a = c .before .before .before .before .before .before .before .before .before .before .before .before .before .args in
     let w = c .before .before .before .before .loop2 .inv .1 in
     let known = c .before .before .before .before .before .before .before .before .before .before .known .result in
-    let inside = stop-inside (a .edition) (now (a .s)) known (c .before .before .before .before .before .carries .ensures) (c .before .if2 .taken) in
-    let step = counts-stop (a .edition) (now (a .s)) known w (c .before .before .before .loop2-test .left) inside in
-    rw (c .before .before .before .before .before .before .before .before .before .octet .ensures) (sym (ap (summarised _ (a .head)) (finishes ourRules (a .edition) (now (a .s)) 0 (w .sofar .found) step)))
+    let inside = stop-inside (a .taken) (now (a .s)) known (c .before .before .before .before .before .carries .ensures) (c .before .if2 .taken) in
+    let step = counts-stop (a .taken) (now (a .s)) known w (c .before .before .before .loop2-test .left) inside in
+    rw (c .before .before .before .before .before .before .before .before .before .octet .ensures) (sym (ap (summarised _ (a .head)) (finishes ourRules (a .taken) (now (a .s)) 0 (w .sofar .found) step)))
 
 add-index : tie.Need-add-index Inv-loop2 μ-loop2 Inv-loop μ-loop
 add-index c =
-    let a = c .before .before .before .before .before .before .before .before .before .before .before .args in
+    let a = c .before .before .before .before .before .before .before .before .before .before .before .before .args in
     let w = c .before .before .before .loop2 .inv .1 in
-    omega (arith, w .sofar .more, few-words (a .edition) (now (a .s)) (c .before .before .before .before .before .before .before .before .before .known .result) (w .sofar))
+    omega (arith, w .sofar .more, few-words (a .taken) (now (a .s)) (c .before .before .before .before .before .before .before .before .before .known .result) (w .sofar))
 
 returns-3 : tie.Need-returns-3 Inv-loop2 μ-loop2 Inv-loop μ-loop
 returns-3 c =
-    let a = c .before .before .before .before .before .before .before .before .before .before .before .before .args in
+    let a = c .before .before .before .before .before .before .before .before .before .before .before .before .before .args in
     let w = c .before .before .before .before .loop2 .inv .1 in
-    let past = stop-none (a .edition) (now (a .s)) (c .before .before .before .before .before .before .before .before .before .before .known .result) (c .before .if2 .left) in
-    let step = counts-end (a .edition) (now (a .s)) (c .before .before .before .before .before .before .before .before .before .before .known .result) w (c .before .before .before .loop2-test .left) past (c .if3 .taken) in
-    rw (c .before .before .before .before .before .before .before .before .before .octet .ensures) (sym (ap (summarised _ (a .head)) (finishes ourRules (a .edition) (now (a .s)) 0 (w .sofar .found) step)))
+    let past = stop-none (a .taken) (now (a .s)) (c .before .before .before .before .before .before .before .before .before .before .known .result) (c .before .if2 .left) in
+    let step = counts-end (a .taken) (now (a .s)) (c .before .before .before .before .before .before .before .before .before .before .known .result) w (c .before .before .before .loop2-test .left) past (c .if3 .taken) in
+    rw (c .before .before .before .before .before .before .before .before .before .octet .ensures) (sym (ap (summarised _ (a .head)) (finishes ourRules (a .taken) (now (a .s)) 0 (w .sofar .found) step)))
 
 word-at-requires : tie.Need-word-at-requires Inv-loop2 μ-loop2 Inv-loop μ-loop
 word-at-requires c κs = search needs
@@ -143,10 +165,10 @@ loop-less c = omega (arith, c .before .before .before .before .before .loop2 .in
 
 loop-again : tie.Need-loop-again Inv-loop2 μ-loop2 Inv-loop μ-loop
 loop-again c =
-    let a = c .before .before .before .before .before .before .before .before .before .before .before .before .before .args in
+    let a = c .before .before .before .before .before .before .before .before .before .before .before .before .before .before .args in
     let w = c .before .before .before .before .before .loop2 .inv .1 in
-    let past = stop-none (a .edition) (now (a .s)) (c .before .before .before .before .before .before .before .before .before .before .before .known .result) (c .before .before .if2 .left) in
-    (_, counts-word (a .edition) (now (a .s)) (c .before .before .before .before .before .before .before .before .before .before .before .known .result) w (c .before .before .before .before .loop2-test .left) past (c .before .if3 .left) (c .word-at .ensures))
+    let past = stop-none (a .taken) (now (a .s)) (c .before .before .before .before .before .before .before .before .before .before .before .known .result) (c .before .before .if2 .left) in
+    (_, counts-word (a .taken) (now (a .s)) (c .before .before .before .before .before .before .before .before .before .before .before .known .result) w (c .before .before .before .before .loop2-test .left) past (c .before .if3 .left) (c .word-at .ensures))
 
 pub count-spec : {M : Type 1} → statement M
 count-spec =
@@ -156,6 +178,7 @@ count-spec =
     μ-loop2
     Inv-loop
     μ-loop
+    rows-requires
     known-requires
     octet-requires
     cast-size
@@ -166,11 +189,13 @@ count-spec =
     loop-holds
     carries-requires
     loop2-holds
-    cast-span-of
+    cast-bit
+    mul-span-of
+    array-copy-out-span-of
     span-of-requires
     cast-last-2
     add-last-2
-    add-t21
+    add-t27
     returns
     add-fields
     sub-left

@@ -8,23 +8,26 @@ use Rattle.radiotap_bits.proofs.gathered.Statement.{statement}
 use Rattle.radiotap_bits.proofs.gathered.Tie as tie
 
 abbrev Inv-loop : tie.InvT-loop
-Inv-loop edition rows bits₀ bit₀ bits bit = KnownFrom edition bit bits
+Inv-loop taken rows bits₀ bit₀ bits bit = KnownFrom taken bit bits
 
 abbrev μ-loop : tie.MeasureT-loop
-μ-loop edition rows bits₀ bit₀ bits bit = bit
+μ-loop taken rows bits₀ bit₀ bits bit = bit
 
 -- the row below is gathered
-gathers : (c : tie.After-knows Inv-loop μ-loop) → (c .knows .result ≤ 1) × KnownFrom (c .before .before .before .before .args .edition) (c .before .before .before .loop .bit - 1) (2 * c .before .before .before .loop .bits + c .knows .result)
-gathers c = known-next (c .before .before .before .before .args .edition) (c .before .before .before .loop .inv) (c .knows .result) (c .before .before .loop-test .taken) (c .knows .ensures)
+gathers : (c : tie.After-knows Inv-loop μ-loop) → (c .knows .result ≤ 1) × KnownFrom (c .before .before .before .before .before .args .taken) (c .before .before .before .loop .bit - 1) (2 * c .before .before .before .loop .bits + c .knows .result)
+gathers c = known-next (c .before .before .before .before .before .args .taken) (c .before .before .before .loop .inv) (c .before .before .before .before .rows .ensures) (c .knows .result) (c .before .before .loop-test .taken) (c .knows .ensures)
+
+rows-requires : tie.Need-rows-requires Inv-loop μ-loop
+rows-requires c κs = search needs
 
 loop-holds : tie.Need-loop-holds Inv-loop μ-loop
-loop-holds c = known-first (c .args .edition)
+loop-holds c = known-first (c .before .args .taken)
 
 sub-bit : tie.Need-sub-bit Inv-loop μ-loop
 sub-bit c = search needs
 
 mul-bits : tie.Need-mul-bits Inv-loop μ-loop
-mul-bits c = omega (arith, known-small (c .before .before .args .edition) (c .before .loop .inv) (omega arith))
+mul-bits c = omega (arith, known-small (c .before .before .before .args .taken) (c .before .loop .inv) (omega arith))
 
 mul-knows : tie.Need-mul-knows Inv-loop μ-loop
 mul-knows c = omega (arith, c .before .loop .inv .low)
@@ -39,7 +42,7 @@ knows-requires : tie.Need-knows-requires Inv-loop μ-loop
 knows-requires c κs = search needs
 
 add-bits : tie.Need-add-bits Inv-loop μ-loop
-add-bits c = omega (arith, gathers c .0, known-small (c .before .before .before .before .args .edition) (c .before .before .before .loop .inv) (omega arith))
+add-bits c = omega (arith, gathers c .0, known-small (c .before .before .before .before .before .args .taken) (c .before .before .before .loop .inv) (omega arith))
 
 loop-less : tie.Need-loop-less Inv-loop μ-loop
 loop-less c = search needs
@@ -48,7 +51,7 @@ loop-again : tie.Need-loop-again Inv-loop μ-loop
 loop-again c = gathers c .1
 
 returns : tie.Need-returns Inv-loop μ-loop
-returns c = known-all (c .before .before .args .edition) (c .before .loop .inv) (c .loop-test .left)
+returns c = known-all (c .before .before .before .args .taken) (c .before .loop .inv) (c .loop-test .left)
 
 pub gathered-spec : {M : Type 1} → statement M
 gathered-spec =
@@ -56,6 +59,7 @@ gathered-spec =
     (tie.spec
     Inv-loop
     μ-loop
+    rows-requires
     loop-holds
     sub-bit
     mul-bits

@@ -1,14 +1,14 @@
 -- `radiotap_list::list` meets its contract: it walks as `radiotap::count` does (`AtWord`, `Counting`), and the loops keep besides that the
 -- list holds the first of the fields met so far, as many as there is room for (`SoFar`); the inner loop for any list that it was made from.
 -- Assumes nothing.
-use Prim.Native.Nat.{ℕ, _-_, min}
+use Prim.Native.Nat.{ℕ, _+_, _-_, _^_, _<_, min}
 use native.Mathlib.Omega.{arith}
 use native.Mathlib.Nat.{zero-min}
 use mathlib.Core.Path.{_≡_, refl, sym, ap, _∙_, subst}
 use mathlib.Core.List.{List}
 use mathlib.Core.Logic.{⊎-elim}
 use lib.ListN.{length}
-use lib.Bits.{and-le-r}
+use lib.Bits.{bitOr, and-le-r}
 use lib.Count.{trailingZeros}
 use denote.Ref.{now}
 use borrow.Author.Needs.{needs}
@@ -16,6 +16,8 @@ use Rattle.radiotap_rules.specs.declared.Cursor.{Cursor}
 use Rattle.radiotap_rules.specs.Table.{ourRules}
 use Rattle.radiotap_rules.specs.Reading.{wordBits}
 use Rattle.radiotap_rules.specs.Steps.{firstCursor}
+use Rattle.radiotap_table.specs.Says.{SpannedAs}
+use Rattle.radiotap_table.proofs.RowLaws.{row-spans}
 use Rattle.radiotap.specs.Outcomes.{summarised}
 use Rattle.radiotap.proofs.WalkLaws.{head-inside}
 use Rattle.radiotap.proofs.WalkLaws.{refuses as walk-refuses, finishes as walk-finishes}
@@ -25,36 +27,56 @@ use Rattle.radiotap_list.proofs.list.Statement.{statement}
 use Rattle.radiotap_list.proofs.list.Tie as tie
 
 abbrev Inv-loop2 : tie.InvT-loop2
-Inv-loop2 s edition head room out₀ known pad size words index word last₀ fields₀ carried left₀ out last fields left =
+Inv-loop2 s taken head room out₀ rows known pad size words index word last₀ fields₀ carried left₀ out last fields left =
     (c : Cursor)
-    × Counting edition s known size words c index left (trailingZeros wordBits (carried .unknown)) last fields
-    × ((base : List ℕ) → Filled ourRules edition s room (firstCursor head) base out₀ (min fields₀ room)
-    → SoFar ourRules edition s room (firstCursor head) base out c (min fields room))
+    × Counting taken s known size words c index left (trailingZeros wordBits (carried .unknown)) last fields
+    × ((base : List ℕ) → Filled ourRules taken s room (firstCursor head) base out₀ (min fields₀ room)
+    → SoFar ourRules taken s room (firstCursor head) base out c (min fields room))
 
 abbrev μ-loop2 : tie.MeasureT-loop2
-μ-loop2 s edition head room out₀ known pad size words index word last₀ fields₀ carried left₀ out last fields left = left
+μ-loop2 s taken head room out₀ rows known pad size words index word last₀ fields₀ carried left₀ out last fields left = left
 
 abbrev Inv-loop : tie.InvT-loop
-Inv-loop s edition head room out₀ known pad size words index₀ word₀ last₀ fields₀ out index word last fields =
+Inv-loop s taken head room out₀ rows known pad size words index₀ word₀ last₀ fields₀ out index word last fields =
     (c : Cursor)
-    × AtWord edition s known size words c index word last fields
-    × SoFar ourRules edition s room (firstCursor head) out₀ out c (min fields room)
+    × AtWord taken s known size words c index word last fields
+    × SoFar ourRules taken s room (firstCursor head) out₀ out c (min fields room)
 
 abbrev μ-loop : tie.MeasureT-loop
-μ-loop s edition head room out₀ known pad size words index₀ word₀ last₀ fields₀ out index word last fields = words - index
+μ-loop s taken head room out₀ rows known pad size words index₀ word₀ last₀ fields₀ out index word last fields = words - index
 
 -- what the list holds, made from the one lent
 holds : (c : tie.At-loop2 Inv-loop2 μ-loop2 Inv-loop μ-loop)
-    → SoFar ourRules (c .before .before .before .before .before .before .before .before .before .args .edition) (now (c .before .before .before .before .before .before .before .before .before .args .s)) (c .before .before .before .before .before .before .before .before .before .args .room) (firstCursor (c .before .before .before .before .before .before .before .before .before .args .head)) (now (c .before .before .before .before .before .before .before .before .before .args .out)) (c .loop2 .out) (c .loop2 .inv .0) (min (c .loop2 .fields) (c .before .before .before .before .before .before .before .before .before .args .room))
+    → SoFar ourRules (c .before .before .before .before .before .before .before .before .before .before .args .taken) (now (c .before .before .before .before .before .before .before .before .before .before .args .s)) (c .before .before .before .before .before .before .before .before .before .before .args .room) (firstCursor (c .before .before .before .before .before .before .before .before .before .before .args .head)) (now (c .before .before .before .before .before .before .before .before .before .before .args .out)) (c .loop2 .out) (c .loop2 .inv .0) (min (c .loop2 .fields) (c .before .before .before .before .before .before .before .before .before .before .args .room))
 holds c =
-    let a = c .before .before .before .before .before .before .before .before .before .args in
-    c .loop2 .inv .2 (now (a .out)) (filled ourRules (a .edition) (now (a .s)) (a .room) (firstCursor (a .head)) (c .before .before .loop .inv .2))
+    let a = c .before .before .before .before .before .before .before .before .before .before .args in
+    c .loop2 .inv .2 (now (a .out)) (filled ourRules (a .taken) (now (a .s)) (a .room) (firstCursor (a .head)) (c .before .before .loop .inv .2))
 
 -- it keeps its length
-stays : (c : tie.At-loop2 Inv-loop2 μ-loop2 Inv-loop μ-loop) → length (c .loop2 .out) ≡ length (now (c .before .before .before .before .before .before .before .before .before .args .out))
+stays : (c : tie.At-loop2 Inv-loop2 μ-loop2 Inv-loop μ-loop) → length (c .loop2 .out) ≡ length (now (c .before .before .before .before .before .before .before .before .before .before .args .out))
 stays c =
-    let a = c .before .before .before .before .before .before .before .before .before .args in
-    keeps-length ourRules (a .edition) (now (a .s)) (a .room) (firstCursor (a .head)) (now (a .out)) (holds c) (c .before .before .before .before .before .before .before .before .before .pre .1)
+    let a = c .before .before .before .before .before .before .before .before .before .before .args in
+    keeps-length ourRules (a .taken) (now (a .s)) (a .room) (firstCursor (a .head)) (now (a .out)) (holds c) (c .before .before .before .before .before .before .before .before .before .before .pre .1)
+
+-- the lowest bit left is one of the word's
+small : (c : tie.In-loop2 Inv-loop2 μ-loop2 Inv-loop μ-loop) → trailingZeros wordBits (c .before .loop2 .left) < wordBits
+small c =
+    let a = c .before .before .before .before .before .before .before .before .before .before .before .args in
+    counts-small (a .taken) (now (a .s)) (c .before .before .before .before .before .before .before .known .result) (c .before .loop2 .inv .1) (c .loop2-test .taken)
+
+-- its field takes what its row says
+spans : (c : tie.After-span-of Inv-loop2 μ-loop2 Inv-loop μ-loop) → SpannedAs (trailingZeros wordBits (c .before .before .before .loop2 .left)) (c .span-of .result)
+spans c = row-spans ourRules (c .before .before .before .before .before .before .before .before .before .before .rows .ensures) (trailingZeros wordBits (c .before .before .before .loop2 .left)) (small (c .before .before)) (c .span-of .ensures)
+
+-- and starts not far behind the length
+near : (c : tie.After-span-of Inv-loop2 μ-loop2 Inv-loop μ-loop) → bitOr (c .before .before .before .loop2 .last) (c .span-of .result .mask) < 2 ^ 32 + 43
+near c =
+    let a = c .before .before .before .before .before .before .before .before .before .before .before .before .before .args in
+    let w = c .before .before .before .loop2 .inv .1 in
+    omega (arith, counts-near (a .taken) (now (a .s)) (c .before .before .before .before .before .before .before .before .before .known .result) w (c .before .before .loop2-test .taken) (spans c), w .sofar .room, c .before .before .before .before .before .before .before .struct-known .given)
+
+rows-requires : tie.Need-rows-requires Inv-loop2 μ-loop2 Inv-loop μ-loop
+rows-requires c κs = search needs
 
 known-requires : tie.Need-known-requires Inv-loop2 μ-loop2 Inv-loop μ-loop
 known-requires c κs = search needs
@@ -79,12 +101,12 @@ add-last c = search needs
 
 loop-holds : tie.Need-loop-holds Inv-loop2 μ-loop2 Inv-loop μ-loop
 loop-holds c =
-    let a = c .before .before .before .before .before .before .args in
+    let a = c .before .before .before .before .before .before .before .args in
     let none : 0 ≡ min 0 (a .room) = sym (zero-min (a .room)) in (
       _,
-      word-first (a .edition) (now (a .s)) (c .before .before .before .known .result) (a .head) (c .before .before .before .before .before .before .pre .0) (c .before .before .before .known .ensures),
-      subst (SoFar ourRules (a .edition) (now (a .s)) (a .room) (firstCursor (a .head)) (now (a .out)) (now (a .out)) (firstCursor (a .head))) none
-          (begins ourRules (a .edition) (now (a .s)) (a .room) (firstCursor (a .head)) (now (a .out)) (head-inside (now (a .s)) (a .head) (c .before .before .before .before .before .before .pre .0))),
+      word-first (a .taken) (now (a .s)) (c .before .before .before .known .result) (a .head) (c .before .before .before .before .before .before .before .pre .0) (c .before .before .before .known .ensures),
+      subst (SoFar ourRules (a .taken) (now (a .s)) (a .room) (firstCursor (a .head)) (now (a .out)) (now (a .out)) (firstCursor (a .head))) none
+          (begins ourRules (a .taken) (now (a .s)) (a .room) (firstCursor (a .head)) (now (a .out)) (head-inside (now (a .s)) (a .head) (c .before .before .before .before .before .before .before .pre .0))),
     )
 
 carries-requires : tie.Need-carries-requires Inv-loop2 μ-loop2 Inv-loop μ-loop
@@ -92,13 +114,17 @@ carries-requires c κs = search needs
 
 loop2-holds : tie.Need-loop2-holds Inv-loop2 μ-loop2 Inv-loop μ-loop
 loop2-holds c =
-    let a = c .before .before .before .before .before .before .before .before .args in
-    (_, word-opens (a .edition) (now (a .s)) (c .before .before .before .before .before .known .result) (c .before .loop .inv .1) (c .carries .ensures), rebased ourRules (a .edition) (now (a .s)) (a .room) (firstCursor (a .head)) (c .before .loop .inv .2))
+    let a = c .before .before .before .before .before .before .before .before .before .args in
+    (_, word-opens (a .taken) (now (a .s)) (c .before .before .before .before .before .known .result) (c .before .loop .inv .1) (c .carries .ensures), rebased ourRules (a .taken) (now (a .s)) (a .room) (firstCursor (a .head)) (c .before .loop .inv .2))
 
 cast-span-of : tie.Need-cast-span-of Inv-loop2 μ-loop2 Inv-loop μ-loop
-cast-span-of c =
-    let a = c .before .before .before .before .before .before .before .before .before .before .args in
-    omega (arith, counts-small (a .edition) (now (a .s)) (c .before .before .before .before .before .before .before .known .result) (c .before .loop2 .inv .1) (c .loop2-test .taken))
+cast-span-of c = omega (arith, small c)
+
+mul-span-of : tie.Need-mul-span-of Inv-loop2 μ-loop2 Inv-loop μ-loop
+mul-span-of c = omega (arith, small c)
+
+array-copy-out-span-of : tie.Need-array-copy-out-span-of Inv-loop2 μ-loop2 Inv-loop μ-loop
+array-copy-out-span-of c = small c
 
 span-of-requires : tie.Need-span-of-requires Inv-loop2 μ-loop2 Inv-loop μ-loop
 span-of-requires c κs = search needs
@@ -107,65 +133,59 @@ cast-last-2 : tie.Need-cast-last-2 Inv-loop2 μ-loop2 Inv-loop μ-loop
 cast-last-2 c = search needs
 
 add-last-2 : tie.Need-add-last-2 Inv-loop2 μ-loop2 Inv-loop μ-loop
-add-last-2 c =
-    let a = c .before .before .before .before .before .before .before .before .before .before .before .before .before .args in
-    omega (arith, counts-near (a .edition) (now (a .s)) (c .before .before .before .before .before .before .before .before .before .before .known .result) (c .before .before .before .before .loop2 .inv .1) (c .before .before .before .loop2-test .taken) (c .before .before .span-of .ensures), c .before .before .before .before .loop2 .inv .1 .sofar .room, c .before .before .before .before .before .before .before .before .struct-known .given, c .struct-known4 .given)
+add-last-2 c = omega (arith, near (c .before .before), c .struct-known4 .given)
 
-add-t23 : tie.Need-add-t23 Inv-loop2 μ-loop2 Inv-loop μ-loop
-add-t23 c =
-    let a = c .before .before .before .before .before .before .before .before .before .before .before .before .before .before .args in
-    omega (arith, counts-near (a .edition) (now (a .s)) (c .before .before .before .before .before .before .before .before .before .before .before .known .result) (c .before .before .before .before .before .loop2 .inv .1) (c .before .before .before .before .loop2-test .taken) (c .before .before .before .span-of .ensures), c .before .before .before .before .before .loop2 .inv .1 .sofar .room, c .before .before .before .before .before .before .before .before .before .struct-known .given)
+add-t29 : tie.Need-add-t29 Inv-loop2 μ-loop2 Inv-loop μ-loop
+add-t29 c = omega (arith, near (c .before .before .before))
 
 same-length : tie.Need-same-length Inv-loop2 μ-loop2 Inv-loop μ-loop
-same-length c = stays (c .before .before .before .before .before)
+same-length c = stays (c .before .before .before .before .before .before)
 
 returns : tie.Need-returns Inv-loop2 μ-loop2 Inv-loop μ-loop
 returns c =
-    let a = c .before .before .before .before .before .before .before .before .before .before .before .before .before .before .args in
-    let i = c .before .before .before .before .before .loop2 .inv in
-    let step = counts-past (a .edition) (now (a .s)) (c .before .before .before .before .before .before .before .before .before .before .before .known .result) (i .1) (c .before .before .before .before .loop2-test .taken) (c .before .before .before .span-of .ensures) (c .if1 .taken) in (
-      sym (ap (summarised _ (a .head)) (walk-refuses ourRules (a .edition) (now (a .s)) 0 (i .1 .sofar .found) step)),
-      refuses ourRules (a .edition) (now (a .s)) (a .room) (firstCursor (a .head)) (now (a .out)) (holds (c .before .before .before .before .before)) step,
+    let a = c .before .before .before .before .before .before .before .before .before .before .before .before .before .before .before .before .args in
+    let i = c .before .before .before .before .before .before .loop2 .inv in
+    let step = counts-past (a .taken) (now (a .s)) (c .before .before .before .before .before .before .before .before .before .before .before .before .known .result) (i .1) (c .before .before .before .before .before .loop2-test .taken) (spans (c .before .before .before)) (c .if1 .taken) in (
+      sym (ap (summarised _ (a .head)) (walk-refuses ourRules (a .taken) (now (a .s)) 0 (i .1 .sofar .found) step)),
+      refuses ourRules (a .taken) (now (a .s)) (a .room) (firstCursor (a .head)) (now (a .out)) (holds (c .before .before .before .before .before .before)) step,
     )
 
 mul-put : tie.Need-mul-put Inv-loop2 μ-loop2 Inv-loop μ-loop
-mul-put c = omega (arith, c .before .before .before .before .before .before .before .before .before .before .before .before .before .before .before .before .pre .1)
+mul-put c = omega (arith, c .before .before .before .before .before .before .before .before .before .before .before .before .before .before .before .before .before .before .pre .1)
 
 add-put : tie.Need-add-put Inv-loop2 μ-loop2 Inv-loop μ-loop
-add-put c =
-    let a = c .before .before .before .before .before .before .before .before .before .before .before .before .before .before .before .before .args in
-    omega (arith, counts-near (a .edition) (now (a .s)) (c .before .before .before .before .before .before .before .before .before .before .before .before .before .known .result) (c .before .before .before .before .before .before .before .loop2 .inv .1) (c .before .before .before .before .before .before .loop2-test .taken) (c .before .before .before .before .before .span-of .ensures), c .before .before .before .before .before .before .before .loop2 .inv .1 .sofar .room, c .before .before .before .before .before .before .before .before .before .before .before .struct-known .given)
+add-put c = omega (arith, near (c .before .before .before .before .before))
 
 put-requires : tie.Need-put-requires Inv-loop2 μ-loop2 Inv-loop μ-loop
-put-requires c κs = omega (arith, stays (c .before .before .before .before .before .before .before), c .before .before .before .before .before .before .before .before .before .before .before .before .before .before .before .before .pre .1)
+put-requires c κs = omega (arith, stays (c .before .before .before .before .before .before .before .before), c .before .before .before .before .before .before .before .before .before .before .before .before .before .before .before .before .before .before .pre .1)
 
 add-fields : tie.Need-add-fields Inv-loop2 μ-loop2 Inv-loop μ-loop
 add-fields c =
-    let a = c .before .before .before .before .before .before .before .before .before .before .before .before .before .before .before .args in
-    omega (arith, few-fields (a .edition) (now (a .s)) (c .before .before .before .before .before .before .before .before .before .before .before .before .known .result) (c .before .before .before .before .before .before .loop2 .inv .1 .sofar))
+    let a = c .before .before .before .before .before .before .before .before .before .before .before .before .before .before .before .before .before .args in
+    omega (arith, few-fields (a .taken) (now (a .s)) (c .before .before .before .before .before .before .before .before .before .before .before .before .before .known .result) (c .before .before .before .before .before .before .before .loop2 .inv .1 .sofar))
 
 sub-left : tie.Need-sub-left Inv-loop2 μ-loop2 Inv-loop μ-loop
 sub-left c = search needs
 
 loop2-less : tie.Need-loop2-less Inv-loop2 μ-loop2 Inv-loop μ-loop
 loop2-less c =
-    let left = c .before .before .before .before .before .before .loop2 .left in
-    let some = c .before .before .before .before .before .loop2-test .taken in
+    let left = c .before .before .before .before .before .before .before .loop2 .left in
+    let some = c .before .before .before .before .before .before .loop2-test .taken in
     omega (arith, and-le-r left (left - 1))
 
 loop2-again : tie.Need-loop2-again Inv-loop2 μ-loop2 Inv-loop μ-loop
 loop2-again c =
-    let a = c .before .before .before .before .before .before .before .before .before .before .before .before .before .before .before .args in
-    let i = c .before .before .before .before .before .before .loop2 .inv in
-    let some = c .before .before .before .before .before .loop2-test .taken in
-    let spans = c .before .before .before .before .span-of .ensures in
-    let step = counts-field (a .edition) (now (a .s)) (c .before .before .before .before .before .before .before .before .before .before .before .before .known .result) (i .1) some spans (c .before .if1 .left) in (
+    let a = c .before .before .before .before .before .before .before .before .before .before .before .before .before .before .before .before .before .args in
+    let i = c .before .before .before .before .before .before .before .loop2 .inv in
+    let some = c .before .before .before .before .before .before .loop2-test .taken in
+    let spans = spans (c .before .before .before .before) in
+    let step = counts-field (a .taken) (now (a .s)) (c .before .before .before .before .before .before .before .before .before .before .before .before .before .known .result) (i .1) some spans (c .before .if1 .left) in (
       _,
-      counts-next (a .edition) (now (a .s)) (c .before .before .before .before .before .before .before .before .before .before .before .before .known .result) (i .1) some spans (c .before .if1 .left),
+      counts-next (a .taken) (now (a .s)) (c .before .before .before .before .before .before .before .before .before .before .before .before .before .known .result) (i .1) some spans (c .before .if1 .left),
       λ base same.
           ⊎-elim
-          (λ w. puts ourRules (a .edition) (now (a .s)) (a .room) (firstCursor (a .head)) base (i .2 base same) (w .0 .taken) _ _ _ _ step refl (w .5 ∙ w .2 .ensures))
-          (λ w. skips ourRules (a .edition) (now (a .s)) (a .room) (firstCursor (a .head)) base (i .2 base same) (w .0 .left) refl (w .1))
+          (λ w. puts ourRules (a .taken) (now (a .s)) (a .room) (firstCursor (a .head)) base (i .2 base same) (w .0 .taken) _ _ _ _ step refl (w .5 ∙ w .2 .ensures))
+          (λ w. skips ourRules (a .taken) (now (a .s)) (a .room) (firstCursor (a .head)) base (i .2 base same) (w .0 .left) refl (w .1))
           (c .if2 .came),
     )
 
@@ -174,31 +194,31 @@ same-length-2 c = stays (c .before .before .before .before)
 
 returns-2 : tie.Need-returns-2 Inv-loop2 μ-loop2 Inv-loop μ-loop
 returns-2 c =
-    let a = c .before .before .before .before .before .before .before .before .before .before .before .before .before .args in
+    let a = c .before .before .before .before .before .before .before .before .before .before .before .before .before .before .args in
     let i = c .before .before .before .before .loop2 .inv in
-    let inside = stop-inside (a .edition) (now (a .s)) (c .before .before .before .before .before .before .before .before .before .before .known .result) (c .before .before .before .before .before .carries .ensures) (c .before .if3 .taken) in
-    let step = counts-stop (a .edition) (now (a .s)) (c .before .before .before .before .before .before .before .before .before .before .known .result) (i .1) (c .before .before .before .loop2-test .left) inside in (
-      rw (c .before .before .before .before .before .before .before .before .before .octet .ensures) (sym (ap (summarised _ (a .head)) (walk-finishes ourRules (a .edition) (now (a .s)) 0 (i .1 .sofar .found) step))),
-      finishes ourRules (a .edition) (now (a .s)) (a .room) (firstCursor (a .head)) (now (a .out)) (holds (c .before .before .before .before)) step,
+    let inside = stop-inside (a .taken) (now (a .s)) (c .before .before .before .before .before .before .before .before .before .before .known .result) (c .before .before .before .before .before .carries .ensures) (c .before .if3 .taken) in
+    let step = counts-stop (a .taken) (now (a .s)) (c .before .before .before .before .before .before .before .before .before .before .known .result) (i .1) (c .before .before .before .loop2-test .left) inside in (
+      rw (c .before .before .before .before .before .before .before .before .before .octet .ensures) (sym (ap (summarised _ (a .head)) (walk-finishes ourRules (a .taken) (now (a .s)) 0 (i .1 .sofar .found) step))),
+      finishes ourRules (a .taken) (now (a .s)) (a .room) (firstCursor (a .head)) (now (a .out)) (holds (c .before .before .before .before)) step,
     )
 
 add-index : tie.Need-add-index Inv-loop2 μ-loop2 Inv-loop μ-loop
 add-index c =
-    let a = c .before .before .before .before .before .before .before .before .before .before .before .before .args in
+    let a = c .before .before .before .before .before .before .before .before .before .before .before .before .before .args in
     let w = c .before .before .before .loop2 .inv .1 .sofar in
-    omega (arith, w .more, few-words (a .edition) (now (a .s)) (c .before .before .before .before .before .before .before .before .before .known .result) w)
+    omega (arith, w .more, few-words (a .taken) (now (a .s)) (c .before .before .before .before .before .before .before .before .before .known .result) w)
 
 same-length-3 : tie.Need-same-length-3 Inv-loop2 μ-loop2 Inv-loop μ-loop
 same-length-3 c = stays (c .before .before .before .before)
 
 returns-3 : tie.Need-returns-3 Inv-loop2 μ-loop2 Inv-loop μ-loop
 returns-3 c =
-    let a = c .before .before .before .before .before .before .before .before .before .before .before .before .before .args in
+    let a = c .before .before .before .before .before .before .before .before .before .before .before .before .before .before .args in
     let i = c .before .before .before .before .loop2 .inv in
-    let past = stop-none (a .edition) (now (a .s)) (c .before .before .before .before .before .before .before .before .before .before .known .result) (c .before .if3 .left) in
-    let step = counts-end (a .edition) (now (a .s)) (c .before .before .before .before .before .before .before .before .before .before .known .result) (i .1) (c .before .before .before .loop2-test .left) past (c .if4 .taken) in (
-      rw (c .before .before .before .before .before .before .before .before .before .octet .ensures) (sym (ap (summarised _ (a .head)) (walk-finishes ourRules (a .edition) (now (a .s)) 0 (i .1 .sofar .found) step))),
-      finishes ourRules (a .edition) (now (a .s)) (a .room) (firstCursor (a .head)) (now (a .out)) (holds (c .before .before .before .before)) step,
+    let past = stop-none (a .taken) (now (a .s)) (c .before .before .before .before .before .before .before .before .before .before .known .result) (c .before .if3 .left) in
+    let step = counts-end (a .taken) (now (a .s)) (c .before .before .before .before .before .before .before .before .before .before .known .result) (i .1) (c .before .before .before .loop2-test .left) past (c .if4 .taken) in (
+      rw (c .before .before .before .before .before .before .before .before .before .octet .ensures) (sym (ap (summarised _ (a .head)) (walk-finishes ourRules (a .taken) (now (a .s)) 0 (i .1 .sofar .found) step))),
+      finishes ourRules (a .taken) (now (a .s)) (a .room) (firstCursor (a .head)) (now (a .out)) (holds (c .before .before .before .before)) step,
     )
 
 word-at-requires : tie.Need-word-at-requires Inv-loop2 μ-loop2 Inv-loop μ-loop
@@ -209,10 +229,10 @@ loop-less c = omega (arith, c .before .before .before .before .before .loop2 .in
 
 loop-again : tie.Need-loop-again Inv-loop2 μ-loop2 Inv-loop μ-loop
 loop-again c =
-    let a = c .before .before .before .before .before .before .before .before .before .before .before .before .before .before .args in
+    let a = c .before .before .before .before .before .before .before .before .before .before .before .before .before .before .before .args in
     let i = c .before .before .before .before .before .loop2 .inv in
-    let past = stop-none (a .edition) (now (a .s)) (c .before .before .before .before .before .before .before .before .before .before .before .known .result) (c .before .before .if3 .left) in
-    (_, counts-word (a .edition) (now (a .s)) (c .before .before .before .before .before .before .before .before .before .before .before .known .result) (i .1) (c .before .before .before .before .loop2-test .left) past (c .before .if4 .left) (c .word-at .ensures), holds (c .before .before .before .before .before))
+    let past = stop-none (a .taken) (now (a .s)) (c .before .before .before .before .before .before .before .before .before .before .before .known .result) (c .before .before .if3 .left) in
+    (_, counts-word (a .taken) (now (a .s)) (c .before .before .before .before .before .before .before .before .before .before .before .known .result) (i .1) (c .before .before .before .before .loop2-test .left) past (c .before .if4 .left) (c .word-at .ensures), holds (c .before .before .before .before .before))
 
 pub list-spec : {M : Type 1} → statement M
 list-spec =
@@ -222,6 +242,7 @@ list-spec =
     μ-loop2
     Inv-loop
     μ-loop
+    rows-requires
     known-requires
     octet-requires
     cast-size
@@ -233,10 +254,12 @@ list-spec =
     carries-requires
     loop2-holds
     cast-span-of
+    mul-span-of
+    array-copy-out-span-of
     span-of-requires
     cast-last-2
     add-last-2
-    add-t23
+    add-t29
     same-length
     returns
     mul-put

@@ -1,61 +1,34 @@
--- `radiotap_table::lay` meets its contract: what is read is the table's row, and the table's one test gives a known field its alignment.
+-- `radiotap_table::lay` meets its contract: the row at the bit's index is the bit's, and past the rows there is none.
 -- Assumes nothing.
 use borrow.Author.Needs.{needs}
-use mathlib.Core.Path.{refl, sym}
+use mathlib.Core.Path.{refl}
 use Rattle.radiotap_rules.specs.Table.{ourRules}
-use Rattle.radiotap_table.proofs.RowLaws.{known, lay-none, lay-later, lay-known}
+use Rattle.radiotap_table.proofs.RowLaws.{row-at, row-past, lay-none}
 use Rattle.radiotap_table.proofs.lay.Statement.{statement}
 use Rattle.radiotap_table.proofs.lay.Tie as tie
 
-row-of-requires : tie.Need-row-of-requires
-row-of-requires c κs = search needs
-
-array-read-if1 : tie.Need-array-read-if1
-array-read-if1 c = search needs
-
 returns : tie.Need-returns
-returns c =
-    let a = c .before .before .args in
-    lay-none ourRules (a .bit) (c .before .row-of .ensures) (a .edition) (a .at) (c .if1 .taken)
+returns c = let a = c .before .args in lay-none ourRules (a .bit) (row-past ourRules (a .bit) (c .if1 .taken)) (a .taken) (a .at) refl
 
-array-read-if2 : tie.Need-array-read-if2
-array-read-if2 c = search needs
+rows-requires : tie.Need-rows-requires
+rows-requires c κs = search needs
 
-cast-if2 : tie.Need-cast-if2
-cast-if2 c = search needs
+mul-lay-row : tie.Need-mul-lay-row
+mul-lay-row c = search needs
+
+array-copy-out-lay-row : tie.Need-array-copy-out-lay-row
+array-copy-out-lay-row c = search needs
+
+lay-row-requires : tie.Need-lay-row-requires
+lay-row-requires c κs = search needs
 
 returns-2 : tie.Need-returns-2
 returns-2 c =
-    let a = c .before .before .before .args in
-    lay-later ourRules (a .bit) (c .before .before .row-of .ensures) (a .edition) (a .at) (c .if2 .taken)
-
-array-read-aligned : tie.Need-array-read-aligned
-array-read-aligned c = search needs
-
-aligned-requires : tie.Need-aligned-requires
-aligned-requires c κs = search needs
-
-array-read-t18 : tie.Need-array-read-t18
-array-read-t18 c = search needs
-
-returns-3 : tie.Need-returns-3
-returns-3 c =
-    let a = c .before .before .before .before .args in
-    let reads = c .before .before .before .row-of .ensures in
-    let knows = known ourRules (a .bit) reads (a .edition) (c .before .before .if1 .left) (c .before .if2 .left) in
-    sym (lay-known ourRules (a .bit) reads (a .edition) (a .at) (c .aligned .result) refl (c .aligned .ensures) knows)
+    let inside = c .before .before .before in
+    let bit = inside .before .args .bit in
+    c .lay-row .ensures bit (row-at ourRules (c .before .before .rows .ensures) bit (inside .if1 .left))
 
 pub lay-spec : {M : Type 1} → statement M
 lay-spec =
     tie.close
-    (tie.spec
-    row-of-requires
-    array-read-if1
-    returns
-    array-read-if2
-    cast-if2
-    returns-2
-    array-read-aligned
-    aligned-requires
-    array-read-t18
-    returns-3)
+    (tie.spec returns rows-requires mul-lay-row array-copy-out-lay-row lay-row-requires returns-2)
