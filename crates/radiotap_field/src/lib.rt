@@ -79,10 +79,10 @@ enum Walked {
     },
 }
 
-// Walks over all fields behind a head in an edition, and keeps the field of a number: one pass.
-fn walk(s: &[u8], edition: u32, head: Head, number: usize) -> Walked
+// Walks over all fields behind a head in the edition taken, and keeps the field of a number: one pass.
+fn walk(s: &[u8], taken: u32, head: Head, number: usize) -> Walked
     requires { ⌜ headAt (now s) ≡ given head ⌝ }
-    ensures { λ r. ⌜ walkSays (now (s .entry)) r ≡ outcome number (readWords ourRules edition (now (s .entry)) (head .size) (presenceWords (now (s .entry)) (head .size))) ⌝ }
+    ensures { λ r. ⌜ walkSays (now (s .entry)) r ≡ outcome number (readWords ourRules taken (now (s .entry)) (head .size) (presenceWords (now (s .entry)) (head .size))) ⌝ }
     ensures { λ r. ⌜ KeptInside (now (s .entry)) r ⌝ }
 {
     let mut cursor = radiotap_head::start(head);
@@ -94,7 +94,7 @@ fn walk(s: &[u8], edition: u32, head: Head, number: usize) -> Walked
         size: 0,
     };
     loop {
-        match radiotap_step::next(s, edition, cursor) {
+        match radiotap_step::next_taken(s, taken, cursor) {
             Step::Refused(refusal) => {
                 return Walked::Refused(refusal);
             }

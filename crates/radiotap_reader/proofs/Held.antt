@@ -26,10 +26,10 @@ use denote.Struct.Laws as LL
 use denote.Struct.Rest.{all-own, own-open}
 use denote.Struct.Values.{Values}
 use denote.Triple.Walked.{says}
-use Rattle.radiotap_reader.specs.declared.Place.{Place}
+use Rattle.radiotap_place.specs.declared.Place.{Place}
 use Rattle.radiotap_reader.specs.declared.FieldReader.{FieldReader}
-use Rattle.radiotap_reader.proofs.Place as P
-use Rattle.radiotap_reader.proofs.Place.Laws as P′
+use Rattle.radiotap_place.proofs.Place as P
+use Rattle.radiotap_place.proofs.Place.Laws as P′
 use Rattle.radiotap_reader.proofs.FieldReader as T
 use Rattle.radiotap_reader.proofs.FieldReader.Laws as T′
 

@@ -1,3 +1,3 @@
 pub mod Readers
-pub mod PlaceLaws
+pub mod MoveLaws
 pub mod Held

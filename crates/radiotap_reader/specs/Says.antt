@@ -1,9 +1,12 @@
--- What a reader's place says in document 01's terms, case by case.
-use Rattle.refusals.specs.Refusals.{Answer, refused, given}
-use Rattle.radiotap_rules.specs.declared.Cursor.{Cursor}
-use Rattle.radiotap_reader.specs.declared.Place.{Place}
+-- What a reader does at an answer, whatever the input.
+use Prim.Native.Nat.{ℕ}
+use mathlib.Core.Path.{_≡_}
+use mathlib.Core.Bool.{Bool}
+use mathlib.Core.List.{List}
+use Rattle.radiotap_step.specs.declared.Step.{Step}
+use Rattle.radiotap_step.specs.Says.{stepSays}
+use Rattle.radiotap_reader.specs.Reader.{staysAt}
 
--- a refusal, or a cursor
-abbrev pub placeSays : Place → Answer Cursor
-placeSays (Place.Refused r) = refused (r .number) (r .place)
-placeSays (Place.At c) = given c
+-- it stays, or moves on
+abbrev pub StaysSays : Step → Bool → Type 0
+StaysSays answer r = (s : List ℕ) → r ≡ staysAt (stepSays s answer)

@@ -4,8 +4,10 @@ ghost use Prim.Native.Nat.{_<_};
 ghost use Rattle.radiotap_rules.specs.Table.{ourRules};
 ghost use Rattle.radiotap_rules.specs.Steps.{stepOf};
 ghost use Rattle.radiotap_rules.specs.Answers.{lies, layOf};
+ghost use Rattle.radiotap_step.specs.Asked.{stepIn};
 ghost use Rattle.radiotap_step.specs.Says.{stepSays, StepSized, MeetSays};
 use radiotap_rules::Cursor;
+use radiotap_table::EDITION_ABOVE;
 use radiotap_table::Layout;
 use refusals::Refusal;
 
@@ -29,9 +31,25 @@ pub enum Step {
     },
 }
 
-// Steps from a cursor to the next field in an edition, from set bit to set bit of the presence word that it holds.
+// Steps from a cursor to the next field in an edition. An edition that is not served is refused, whatever the cursor.
 pub fn next(s: &[u8], edition: u32, cursor: Cursor) -> Step
-    ensures { λ r. ⌜ stepSays (now (s .entry)) r ≡ stepOf ourRules edition (now (s .entry)) cursor ⌝ }
+    ensures { λ r. ⌜ stepSays (now (s .entry)) r ≡ stepIn ourRules edition (now (s .entry)) cursor ⌝ }
+    ensures { λ r. ⌜ StepSized r ⌝ }
+{
+    if radiotap_table::served(edition) {
+        next_taken(s, radiotap_table::reading(edition), cursor)
+    } else {
+        Step::Refused(Refusal {
+            number: EDITION_ABOVE,
+            place: 0,
+        })
+    }
+}
+
+// Steps from a cursor to the next field in the edition taken, which a walk judges once and not at each step: from set bit
+// to set bit of the presence word that the cursor holds.
+pub fn next_taken(s: &[u8], taken: u32, cursor: Cursor) -> Step
+    ensures { λ r. ⌜ stepSays (now (s .entry)) r ≡ stepOf ourRules taken (now (s .entry)) cursor ⌝ }
     ensures { λ r. ⌜ StepSized r ⌝ }
 {
     let mut position = cursor.position;
@@ -41,7 +59,7 @@ pub fn next(s: &[u8], edition: u32, cursor: Cursor) -> Step
         let bit = radiotap_bits::next_set(bits, position % 32);
         if bit < 31 {
             if bit != 29 {
-                return meet(edition, cursor, word, bit, bits);
+                return meet(taken, cursor, word, bit, bits);
             }
             position = 32 * word + 30;
         } else {
@@ -52,12 +70,12 @@ pub fn next(s: &[u8], edition: u32, cursor: Cursor) -> Step
     Step::End
 }
 
-// What a step meets at a set bit of a word, whose bits are held.
-fn meet(edition: u32, cursor: Cursor, word: u32, bit: u32, bits: u32) -> Step
+// What a step meets at a set bit of a word, whose bits are held, in the edition taken.
+fn meet(taken: u32, cursor: Cursor, word: u32, bit: u32, bits: u32) -> Step
     requires { ⌜ (word < 256) × (bit < 31) ⌝ }
-    ensures { λ r. ⌜ MeetSays cursor word bit bits (layOf ourRules edition bit (cursor .at)) r ⌝ }
+    ensures { λ r. ⌜ MeetSays cursor word bit bits (layOf ourRules taken bit (cursor .at)) r ⌝ }
 {
-    match radiotap_table::lay(edition, bit as usize, cursor.at) {
+    match radiotap_table::lay(taken, bit as usize, cursor.at) {
         Layout::Unknown => Step::Stop { word, bit },
         Layout::Lies { start, size } => found(cursor, word, bit, bits, start, size),
     }

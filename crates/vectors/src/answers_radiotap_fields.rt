@@ -2,7 +2,7 @@
 ghost use mathlib.Core.Path.{_≡_};
 ghost use Rattle.radiotap_rules.specs.Table.{ourRules};
 ghost use Rattle.radiotap_step.specs.Says.{stepSays};
-ghost use Rattle.radiotap_reader.specs.Reader.{freshPlace, movedOn, answerAt};
+ghost use Rattle.radiotap_place.specs.Places.{freshPlace, movedOn, answerAt};
 ghost use Rattle.vectors.specs.Questions.{isAmong};
 use crate::question_lines;
 use crate::question_lines::low32;

@@ -23,11 +23,11 @@ use Rattle.radiotap_field.proofs.walk.Statement.{statement}
 use Rattle.radiotap_field.proofs.walk.Tie as tie
 
 abbrev Inv-loop : tie.InvT-loop
-Inv-loop s edition number cursor₀ fields₀ kept₀ cursor fields kept =
-    SoFar ourRules edition s (cursor₀ .size) number cursor fields (keptOf s kept) × (kept .start + kept .size ≤ length s)
+Inv-loop s taken number cursor₀ fields₀ kept₀ cursor fields kept =
+    SoFar ourRules taken s (cursor₀ .size) number cursor fields (keptOf s kept) × (kept .start + kept .size ≤ length s)
 
 abbrev μ-loop : tie.MeasureT-loop
-μ-loop s edition number cursor₀ fields₀ kept₀ cursor fields kept = positionsLeft cursor
+μ-loop s taken number cursor₀ fields₀ kept₀ cursor fields kept = positionsLeft cursor
 
 start-requires : tie.Need-start-requires Inv-loop μ-loop
 start-requires c κs = tt
@@ -36,11 +36,11 @@ loop-holds : tie.Need-loop-holds Inv-loop μ-loop
 unfolding part
 loop-holds c =
     let a = c .before .before .args in
-    let begun = begins ourRules (a .edition) (now (a .s)) (a .number) (a .head) (c .before .before .pre) in
-    (subst (λ (x : Cursor). SoFar ourRules (a .edition) (now (a .s)) (x .size) (a .number) x 0 noneKept) (sym (c .start .ensures)) begun, omega arith)
+    let begun = begins ourRules (a .taken) (now (a .s)) (a .number) (a .head) (c .before .before .pre) in
+    (subst (λ (x : Cursor). SoFar ourRules (a .taken) (now (a .s)) (x .size) (a .number) x 0 noneKept) (sym (c .start .ensures)) begun, omega arith)
 
-next-requires : tie.Need-next-requires Inv-loop μ-loop
-next-requires c κs = tt
+next-taken-requires : tie.Need-next-taken-requires Inv-loop μ-loop
+next-taken-requires c κs = tt
 
 enum-known-refusal : tie.Need-enum-known-refusal Inv-loop μ-loop
 enum-known-refusal c = search needs
@@ -48,8 +48,8 @@ enum-known-refusal c = search needs
 returns : tie.Need-returns Inv-loop μ-loop
 returns c =
     let a = c .before .before .before .before .before .before .before .args in
-    let step = sym (c .before .before .before .next .ensures .0) ∙ ap (stepSays (now (a .s))) (c .before .refusal .given .1) in
-    (sym (ap (λ (x : Cursor). whole ourRules (a .edition) (now (a .s)) (x .size) (a .number)) (sym (c .before .before .before .before .before .start .ensures)) ∙ refuses ourRules (a .edition) (now (a .s)) (a .number) (c .before .before .before .before .loop .inv .0) step), tt)
+    let step = sym (c .before .before .before .next-taken .ensures .0) ∙ ap (stepSays (now (a .s))) (c .before .refusal .given .1) in
+    (sym (ap (λ (x : Cursor). whole ourRules (a .taken) (now (a .s)) (x .size) (a .number)) (sym (c .before .before .before .before .before .start .ensures)) ∙ refuses ourRules (a .taken) (now (a .s)) (a .number) (c .before .before .before .before .loop .inv .0) step), tt)
 
 enum-told : tie.Need-enum-told Inv-loop μ-loop
 enum-told c = search needs
@@ -57,8 +57,8 @@ enum-told c = search needs
 returns-2 : tie.Need-returns-2 Inv-loop μ-loop
 returns-2 c =
     let a = c .before .before .before .before .before .before .args in
-    let step = sym (c .before .before .next .ensures .0) ∙ ap (stepSays (now (a .s))) (c .enum-told .given .1) in
-    (sym (ap (λ (x : Cursor). whole ourRules (a .edition) (now (a .s)) (x .size) (a .number)) (sym (c .before .before .before .before .start .ensures)) ∙ finishes ourRules (a .edition) (now (a .s)) (a .number) (c .before .before .before .loop .inv .0) step), c .before .before .before .loop .inv .1)
+    let step = sym (c .before .before .next-taken .ensures .0) ∙ ap (stepSays (now (a .s))) (c .enum-told .given .1) in
+    (sym (ap (λ (x : Cursor). whole ourRules (a .taken) (now (a .s)) (x .size) (a .number)) (sym (c .before .before .before .before .start .ensures)) ∙ finishes ourRules (a .taken) (now (a .s)) (a .number) (c .before .before .before .loop .inv .0) step), c .before .before .before .loop .inv .1)
 
 enum-known-word : tie.Need-enum-known-word Inv-loop μ-loop
 enum-known-word c = search needs
@@ -66,8 +66,8 @@ enum-known-word c = search needs
 returns-3 : tie.Need-returns-3 Inv-loop μ-loop
 returns-3 c =
     let a = c .before .before .before .before .before .before .before .args in
-    let step = sym (c .before .before .before .next .ensures .0) ∙ ap (stepSays (now (a .s))) (c .before .word .given .1) in
-    (sym (ap (λ (x : Cursor). whole ourRules (a .edition) (now (a .s)) (x .size) (a .number)) (sym (c .before .before .before .before .before .start .ensures)) ∙ finishes ourRules (a .edition) (now (a .s)) (a .number) (c .before .before .before .before .loop .inv .0) step), c .before .before .before .before .loop .inv .1)
+    let step = sym (c .before .before .before .next-taken .ensures .0) ∙ ap (stepSays (now (a .s))) (c .before .word .given .1) in
+    (sym (ap (λ (x : Cursor). whole ourRules (a .taken) (now (a .s)) (x .size) (a .number)) (sym (c .before .before .before .before .before .start .ensures)) ∙ finishes ourRules (a .taken) (now (a .s)) (a .number) (c .before .before .before .before .loop .inv .0) step), c .before .before .before .before .loop .inv .1)
 
 enum-known-word-2 : tie.Need-enum-known-word-2 Inv-loop μ-loop
 enum-known-word-2 c = search needs
@@ -75,29 +75,29 @@ enum-known-word-2 c = search needs
 add-fields : tie.Need-add-fields Inv-loop μ-loop
 add-fields c =
     let a = c .before .before .before .before .before .before .before .before .args in
-    omega (arith, countable ourRules (a .edition) (now (a .s)) (a .number) (c .before .before .before .before .before .loop .inv .0))
+    omega (arith, countable ourRules (a .taken) (now (a .s)) (a .number) (c .before .before .before .before .before .loop .inv .0))
 
 loop-less : tie.Need-loop-less Inv-loop μ-loop
 loop-less c =
     let a = c .before .before .before .before .before .before .before .before .args in
-    let step = sym (c .before .before .before .before .next .ensures .0) ∙ ap (stepSays (now (a .s))) (c .before .before .word2 .given .1) in
-    nearer ourRules (a .edition) (now (a .s)) (a .number) (c .before .before .before .before .before .loop .inv .0) step
+    let step = sym (c .before .before .before .before .next-taken .ensures .0) ∙ ap (stepSays (now (a .s))) (c .before .before .word2 .given .1) in
+    nearer ourRules (a .taken) (now (a .s)) (a .number) (c .before .before .before .before .before .loop .inv .0) step
 
 loop-again : tie.Need-loop-again Inv-loop μ-loop
 loop-again c =
     let a = c .before .before .before .before .before .before .before .before .args in
-    let step = sym (c .before .before .before .before .next .ensures .0) ∙ ap (stepSays (now (a .s))) (c .before .before .word2 .given .1) in
+    let step = sym (c .before .before .before .before .next-taken .ensures .0) ∙ ap (stepSays (now (a .s))) (c .before .before .word2 .given .1) in
     let inv = c .before .before .before .before .before .loop .inv in
     let first : firstCursor (a .head) .size ≡ c .before .before .before .before .before .before .start .result .size = ap (λ (x : Cursor). x .size) (sym (c .before .before .before .before .before .before .start .ensures)) in
     let input = head-inside (now (a .s)) (a .head) (c .before .before .before .before .before .before .before .before .pre) in
-    let sized = subst StepSized (c .before .before .word2 .given .1) (c .before .before .before .before .next .ensures .1) in
+    let sized = subst StepSized (c .before .before .word2 .given .1) (c .before .before .before .before .next-taken .ensures .1) in
     ⊎-elim
     (λ w. (
-      subst (SoFar ourRules (a .edition) (now (a .s)) _ (a .number) _ _) (ap (keptOf (now (a .s))) (sym (w .1))) (keeps ourRules (a .edition) (now (a .s)) (a .number) (inv .0) step (w .0 .taken)),
-      subst (λ (k : Kept). k .start + k .size ≤ length (now (a .s))) (sym (w .1)) (shown-inside ourRules (a .edition) (now (a .s)) (a .number) (inv .0) step _ _ (omega (arith, first, input)) sized),
+      subst (SoFar ourRules (a .taken) (now (a .s)) _ (a .number) _ _) (ap (keptOf (now (a .s))) (sym (w .1))) (keeps ourRules (a .taken) (now (a .s)) (a .number) (inv .0) step (w .0 .taken)),
+      subst (λ (k : Kept). k .start + k .size ≤ length (now (a .s))) (sym (w .1)) (shown-inside ourRules (a .taken) (now (a .s)) (a .number) (inv .0) step _ _ (omega (arith, first, input)) sized),
     ))
     (λ w. (
-      subst (SoFar ourRules (a .edition) (now (a .s)) _ (a .number) _ _) (ap (keptOf (now (a .s))) (sym (w .1))) (leaves ourRules (a .edition) (now (a .s)) (a .number) (inv .0) step (w .0 .left)),
+      subst (SoFar ourRules (a .taken) (now (a .s)) _ (a .number) _ _) (ap (keptOf (now (a .s))) (sym (w .1))) (leaves ourRules (a .taken) (now (a .s)) (a .number) (inv .0) step (w .0 .left)),
       subst (λ (k : Kept). k .start + k .size ≤ length (now (a .s))) (sym (w .1)) (inv .1),
     ))
     (c .if1 .came)
@@ -110,7 +110,7 @@ walk-spec =
     μ-loop
     start-requires
     loop-holds
-    next-requires
+    next-taken-requires
     enum-known-refusal
     returns
     enum-told

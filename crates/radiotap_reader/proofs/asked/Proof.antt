@@ -43,13 +43,13 @@ use Rattle.radiotap_step.specs.declared.Step.{Step}
 use Rattle.radiotap_step.specs.Says.{stepSays, StepSized}
 use Rattle.radiotap_step.proofs.Step as S
 use Rattle.radiotap_step.proofs.Step.Laws as S′
-use Rattle.radiotap_reader.specs.Reader.{answerAt}
-use Rattle.radiotap_reader.specs.Says.{placeSays}
-use Rattle.radiotap_reader.specs.declared.Place.{Place}
+use Rattle.radiotap_place.specs.Places.{answerAt}
+use Rattle.radiotap_place.specs.Says.{placeSays}
+use Rattle.radiotap_place.specs.declared.Place.{Place}
 use Rattle.radiotap_reader.specs.declared.FieldReader.{FieldReader}
 use Rattle.radiotap_reader.proofs.Held.{B, D, L, held, sliced, placed, reader-is, says-both}
-use Rattle.radiotap_reader.proofs.Place as P
-use Rattle.radiotap_reader.proofs.Place.Laws as P′
+use Rattle.radiotap_place.proofs.Place as P
+use Rattle.radiotap_place.proofs.Place.Laws as P′
 use Rattle.radiotap_reader.proofs.next as next
 use Rattle.radiotap_reader.proofs.next.Symbol as next-def
 use Rattle.radiotap_reader.proofs.next.Symbol.{name as #next}

@@ -1,5 +1,5 @@
--- `radiotap_reader::moved` meets its contract: a walk of its MIR, by hand. The reader is taken apart, `place_after` is called on its parts, and a reader is made anew of its header, its edition and the place given.
--- All that the proof knows of `place_after` is that it meets its contract. A reader is Copy: what it owns is had three times, for the callee, for the exit, and with another place for the result.
+-- `radiotap_reader::moved` meets its contract: a walk of its MIR, by hand. The reader is taken apart, `radiotap_place::after` is called on its parts, and a reader is made anew of its header, its edition and the place given.
+-- All that the proof knows of `radiotap_place::after` is that it meets its contract. A reader is Copy: what it owns is had three times, for the callee, for the exit, and with another place for the result.
 -- Assumes nothing.
 use mathlib.Core.Path.{_≡_, refl, ap}
 use mathlib.Core.List.{[], _∷_}
@@ -39,18 +39,18 @@ use denote.Triple.Walked.{says, Stays, stay-none, walkOf, goes-none, Walks, ends
 use denote.Exit.{yes}
 use denote.Triple.Clauses.{ensured, lasts}
 use Rattle.radiotap_rules.specs.Table.{ourRules}
-use Rattle.radiotap_reader.specs.Reader.{movedOn}
-use Rattle.radiotap_reader.specs.Says.{placeSays}
-use Rattle.radiotap_reader.specs.declared.Place.{Place}
+use Rattle.radiotap_place.specs.Places.{movedOn}
+use Rattle.radiotap_place.specs.Says.{placeSays}
+use Rattle.radiotap_place.specs.declared.Place.{Place}
 use Rattle.radiotap_reader.specs.declared.FieldReader.{FieldReader}
 use Rattle.radiotap_reader.proofs.Held.{B, D, L, held, Parts, apart, sliced, placed, place-is, place-of, reader-moved}
-use Rattle.radiotap_reader.proofs.Place as P
-use Rattle.radiotap_reader.proofs.Place.Laws as P′
+use Rattle.radiotap_place.proofs.Place as P
+use Rattle.radiotap_place.proofs.Place.Laws as P′
 use Rattle.radiotap_reader.proofs.FieldReader.Laws as T′
-use Rattle.radiotap_reader.proofs.place_after as after
-use Rattle.radiotap_reader.proofs.place_after.Symbol as after-def
-use Rattle.radiotap_reader.proofs.place_after.Symbol.{name as #place-after}
-use Rattle.radiotap_reader.proofs.place_after.Met as after-thm
+use Rattle.radiotap_place.proofs.after as after
+use Rattle.radiotap_place.proofs.after.Symbol as after-def
+use Rattle.radiotap_place.proofs.after.Symbol.{name as #after}
+use Rattle.radiotap_place.proofs.after.Met as after-thm
 use Rattle.radiotap_reader.proofs.moved.Key.{name as #moved}
 use Rattle.radiotap_reader.proofs.moved as moved
 use Rattle.radiotap_reader.proofs.moved.Statement as stated
@@ -61,8 +61,8 @@ stayed = (stay-none B yes, tt)
 
 module _ {M : Type 1} (𝓤 : URA M) (H : Heap 𝓤) (A : Atoms 𝓤) (mem : Memory → SProp 𝓤) (run : Routine → Fun 𝓤) where
   -- the contract that the proof cites
-  abbrev PlaceAfter : Contract 𝓤
-  PlaceAfter = tripleOf 𝓤 H A after.signature (after.spec 𝓤 H A mem run)
+  abbrev After : Contract 𝓤
+  After = tripleOf 𝓤 H A after.signature (after.spec 𝓤 H A mem run)
 
 module _ {M : Type 1} (𝓤 : URA M) (H : Heap 𝓤) (A : Atoms 𝓤) (W : Given 𝓤 H A) (mem : Memory → SProp 𝓤) (run : Routine → Fun 𝓤) (κ : Lft) (q : Share) (d : FieldReader) where
   abbrev α : NamedLft
@@ -88,10 +88,10 @@ module _ {M : Type 1} (𝓤 : URA M) (H : Heap 𝓤) (A : Atoms 𝓤) (W : Given
   abbrev passed : Vals after.signature (κ, tt)
   passed = (sliced (d .header) ∷ [], (vint w32 (d .edition) ∷ [], (placed (d .place) ∷ [], tt)))
 
-  abbrev to : PlaceAfter 𝓤 H A mem run .Ghost
+  abbrev to : After 𝓤 H A mem run .Ghost
   to = (((κ, tt), (q, tt), tt, (d .header, (d .edition, (d .place, tt))), passed), tt)
 
-  asked : ent 𝓤 (Parts 𝓤 H A W κ q d) (PlaceAfter 𝓤 H A mem run .pre to)
+  asked : ent 𝓤 (Parts 𝓤 H A W κ q d) (After 𝓤 H A mem run .pre to)
   asked = qed W ((‵ (flft κ q) ⊛ ‵ ftrue) ∷ ‵ (owns (ShrSlice (named 0) κ u8 ∷ u32 ∷ P.the-row ∷ []) (d .header, (d .edition, (d .place, tt))) passed) ∷ []) ∵ join ! $ frame ! $ done !
 
   -- of the callee's `ensured`, the clause alone: it has no `&mut`, so what is said of last values is dropped
@@ -106,7 +106,7 @@ module _ {M : Type 1} (𝓤 : URA M) (H : Heap 𝓤) (A : Atoms 𝓤) (W : Given
       -- [what the reader owns]: the facts of the place given take the place of its own
       owned ! P.the-row (Is P.the-row) (EL.makes P.the-type P′.the-plain 𝓤 H A) p _ p-is $ move ! (1 ∷ 0 ∷ []) $ by ! (own-put 𝓤 H A W (D α) (L α) 2 (d .header, (d .edition, (d .place, tt))) p mach)
 
-  module _ (C : Calls 𝓤 H) (Λ : Loops 𝓤 H) (fm : FmC 𝓤 H (W .laws) C) (known : Triple 𝓤 (C #place-after) (PlaceAfter 𝓤 H A mem run)) where
+  module _ (C : Calls 𝓤 H) (Λ : Loops 𝓤 H) (fm : FmC 𝓤 H (W .laws) C) (known : Triple 𝓤 (C #after) (After 𝓤 H A mem run)) where
     walk : Is (B (κ, tt)) d (mach ∷ []) → Holds (hasTy (T′.mir (named 0)) mach) × WT mach
         → ent 𝓤 (onEntry 𝓤 H A moved.signature (κ, tt) (q, tt) (d, tt) (mach ∷ [], tt)) (WpFn 𝓤 H C Λ code.function (mach ∷ []) Post)
     walk d-is wt =
@@ -116,8 +116,8 @@ module _ {M : Type 1} (𝓤 : URA M) (H : Heap 𝓤) (A : Atoms 𝓤) (W : Given
         assigns ! (of-opd ! (load ! (from ! (fld ! refl (stop !))) (look-in ! 12 (sub ! 0 refl (whole !))))) (from ! (stop !)) (init ! 8 refl (tt, wt .1 .0)) $
         assigns ! (of-opd ! (load ! (from ! (fld ! refl (stop !))) (look-in ! 12 (sub ! 1 refl (whole !))))) (from ! (stop !)) (init ! 6 refl (tt, wt .1 .1 .0)) $
         assigns ! (of-opd ! (load ! (from ! (fld ! refl (stop !))) (look-in ! 12 (sub ! 2 refl (whole !))))) (from ! (stop !)) (init ! 4 refl (EL.lawful P.the-type P′.the-laws 𝓤 H A W tt .typed (d .place) _ (place-of α d _ d-is) .0)) $
-        move ! (16 ∷ []) $ use1 W (raw (Parts 𝓤 H A W κ q d) ⊛ ‵ Own) (apart 𝓤 H A W κ q d) $ split ! $ use1 W (raw (PlaceAfter 𝓤 H A mem run .pre to)) asked $
-        calls-at ! fm (PlaceAfter 𝓤 H A mem run) known to (and-then ! (load ! (from ! (stop !)) (look ! 10 refl)) (and-then ! (load ! (from ! (stop !)) (look ! 8 refl)) (and-then ! (load ! (from ! (stop !)) (look ! 6 refl)) (no-more !)))) (λ u.
+        move ! (16 ∷ []) $ use1 W (raw (Parts 𝓤 H A W κ q d) ⊛ ‵ Own) (apart 𝓤 H A W κ q d) $ split ! $ use1 W (raw (After 𝓤 H A mem run .pre to)) asked $
+        calls-at ! fm (After 𝓤 H A mem run) known to (and-then ! (load ! (from ! (stop !)) (look ! 10 refl)) (and-then ! (load ! (from ! (stop !)) (look ! 8 refl)) (and-then ! (load ! (from ! (stop !)) (look ! 6 refl)) (no-more !)))) (λ u.
         use1 W (later (some (λ (p : Place). ((‵ (flft κ q) ⊛ ‵ ftrue) ⊛ ‵ (P.the-row .own p (u ∷ []))) ⊛ raw (ensured 𝓤 H A after.ended (after.clauses 𝓤 H A mem run) (κ, tt) (d .header, (d .edition, (d .place, tt))) tt p)))) (id⊢ 𝓤 _) $ await ! tt $ pick ! (λ p.
         split ! $ move ! (1 ∷ []) $ use1 W (raw (fact 𝓤 (Stands p))) (said p) $ heard ! (Stands p) (λ e. split ! $ move ! (1 ∷ []) $
         peeks ! P.the-row (Is P.the-row) (shows 𝓤 H A P.the-row) p (u ∷ []) (λ is. drop ! $
@@ -133,13 +133,13 @@ module _ {M : Type 1} (𝓤 : URA M) (H : Heap 𝓤) (A : Atoms 𝓤) (W : Given
         move ! (8 ∷ 9 ∷ []) $ free1 ! $ move ! (6 ∷ 7 ∷ []) $ free1 ! $ move ! (4 ∷ 5 ∷ []) $ free1 ! $ move ! (2 ∷ 3 ∷ []) $ free1 ! $ free0 ! $ by ! (exits p (place-is p _ is) e)))))))))))))
 
 module _ {M : Type 1} (𝓤 : URA M) (H : Heap 𝓤) (A : Atoms 𝓤) (W : Given 𝓤 H A) (mem : Memory → SProp 𝓤) (run : Routine → Fun 𝓤) where
-  moved-walks : (C : Calls 𝓤 H) (Λ : Loops 𝓤 H) → FmC 𝓤 H (W .laws) C → Triple 𝓤 (C #place-after) (PlaceAfter 𝓤 H A mem run)
+  moved-walks : (C : Calls 𝓤 H) (Λ : Loops 𝓤 H) → FmC 𝓤 H (W .laws) C → Triple 𝓤 (C #after) (After 𝓤 H A mem run)
       → Walks 𝓤 H A moved.ended stayed (WpFn 𝓤 H C Λ code.function) (moved.clauses 𝓤 H A mem run)
   moved-walks C Λ fm known = walked 𝓤 H A moved.ended stayed (moved.clauses 𝓤 H A mem run) (WpFn 𝓤 H C Λ code.function) (λ κs. (LL.vals (D (namedLft 1 0 tt κs)) (L (namedLft 1 0 tt κs)), tt)) (λ κs. (LL.tells (D (namedLft 1 0 tt κs)) (L (namedLft 1 0 tt κs)), tt))
       (λ κs qs bounds a g are. via 𝓤 _ (fst∗ 𝓤 _ (emp 𝓤)) (walk 𝓤 H A W mem run (κs .0) (qs .0) (a .0) C Λ fm known (are .0) (LL.lawful (D (namedLft 1 0 tt κs)) (L (namedLft 1 0 tt κs)) 𝓤 H A W .typed (a .0) _ (are .0) .0)))
 
 moved-meets : {M : Type 1} (𝓤 : URA M) (H : Heap 𝓤) (A : Atoms 𝓤) (W : Given 𝓤 H A) (mem : Memory → SProp 𝓤) (run : Routine → Fun 𝓤) (𝓣 : Tables 𝓤 H)
-    → Triple 𝓤 (𝓣 .C #place-after) (PlaceAfter 𝓤 H A mem run)
+    → Triple 𝓤 (𝓣 .C #after) (After 𝓤 H A mem run)
     → Meets 𝓤 H A moved.signature (WpFn 𝓤 H (𝓣 .C) (𝓣 .Λ) code.function) (moved.spec 𝓤 H A mem run)
 moved-meets 𝓤 H A W mem run 𝓣 known = walk-meets 𝓤 H A moved.ended stayed W (goes-none 𝓤 H A W 1 B yes (λ κs x f. refl), tt) (moved.clauses 𝓤 H A mem run) (WpFn 𝓤 H (𝓣 .C) (𝓣 .Λ) code.function) (WpFn-mono 𝓤 H (W .laws) 𝓣 code.function)
     (moved-walks 𝓤 H A W mem run (𝓣 .C) (𝓣 .Λ) (fmOf 𝓤 H (W .laws) 𝓣) known)
@@ -150,4 +150,4 @@ moved-spec 𝓤 H 𝓜 𝓖 𝓡 =
     entered 𝓤 H (tripleOf 𝓤 H (𝓖 .A) moved.signature (moved.spec 𝓤 H (𝓖 .A) (𝓜 .mem) (𝓡 .run)))
     (tables 𝓤 H 𝓜 𝓡 code.env .C) (tables 𝓤 H 𝓜 𝓡 code.env .Λ) #moved code.function (code.unfolded 𝓤 H 𝓜 𝓡)
     (moved-meets 𝓤 H (𝓖 .A) (givenOf 𝓤 H 𝓜 𝓖) (𝓜 .mem) (𝓡 .run) (tablesOf 𝓤 H 𝓜 (tables 𝓤 H 𝓜 𝓡 code.env))
-    (cited 𝓤 H (PlaceAfter 𝓤 H (𝓖 .A) (𝓜 .mem) (𝓡 .run)) 𝓜 𝓡 code.env #place-after after-def.routine code.calls-radiotap-reader·place-after (after-thm.met 𝓤 H 𝓜 𝓖 𝓡)))
+    (cited 𝓤 H (After 𝓤 H (𝓖 .A) (𝓜 .mem) (𝓡 .run)) 𝓜 𝓡 code.env #after after-def.routine code.calls-radiotap-place·after (after-thm.met 𝓤 H 𝓜 𝓖 𝓡)))

@@ -1,5 +1,5 @@
--- `radiotap_reader::new` meets its contract: a walk of its MIR, by hand. `fresh_place` is called on the header and the edition, and a reader is made of both and of the place that it gives.
--- All that the proof knows of `fresh_place` is that it meets its contract. A `&[u8]` is Copy: what it owns is had three times, for the callee, for the exit and inside the result.
+-- `radiotap_reader::new` meets its contract: a walk of its MIR, by hand. `radiotap_place::fresh` is called on the header and the edition, and a reader is made of both and of the place that it gives.
+-- All that the proof knows of `radiotap_place::fresh` is that it meets its contract. A `&[u8]` is Copy: what it owns is had three times, for the callee, for the exit and inside the result.
 -- Assumes nothing.
 use mathlib.Core.Path.{_≡_, refl, ap}
 use Prim.Native.Nat.{ℕ, _<_, _^_}
@@ -40,17 +40,17 @@ use denote.Triple.Walked.{says, Stays, stay-none, stay-none-slice, walkOf, goes-
 use denote.Exit.{yes}
 use denote.Triple.Clauses.{ensured, lasts}
 use Rattle.radiotap_rules.specs.Table.{ourRules}
-use Rattle.radiotap_reader.specs.Reader.{freshPlace}
-use Rattle.radiotap_reader.specs.Says.{placeSays}
-use Rattle.radiotap_reader.specs.declared.Place.{Place}
+use Rattle.radiotap_place.specs.Places.{freshPlace}
+use Rattle.radiotap_place.specs.Says.{placeSays}
+use Rattle.radiotap_place.specs.declared.Place.{Place}
 use Rattle.radiotap_reader.specs.declared.FieldReader.{FieldReader}
 use Rattle.radiotap_reader.proofs.Held.{D, L, held, sliced, placed, place-is, reader-is}
-use Rattle.radiotap_reader.proofs.Place as P
-use Rattle.radiotap_reader.proofs.Place.Laws as P′
-use Rattle.radiotap_reader.proofs.fresh_place as fresh
-use Rattle.radiotap_reader.proofs.fresh_place.Symbol as fresh-def
-use Rattle.radiotap_reader.proofs.fresh_place.Symbol.{name as #fresh-place}
-use Rattle.radiotap_reader.proofs.fresh_place.Met as fresh-thm
+use Rattle.radiotap_place.proofs.Place as P
+use Rattle.radiotap_place.proofs.Place.Laws as P′
+use Rattle.radiotap_place.proofs.fresh as fresh
+use Rattle.radiotap_place.proofs.fresh.Symbol as fresh-def
+use Rattle.radiotap_place.proofs.fresh.Symbol.{name as #fresh}
+use Rattle.radiotap_place.proofs.fresh.Met as fresh-thm
 use Rattle.radiotap_reader.proofs.new.Key.{name as #new}
 use Rattle.radiotap_reader.proofs.new as new
 use Rattle.radiotap_reader.proofs.new.Statement as stated
@@ -110,7 +110,7 @@ module _ {M : Type 1} (𝓤 : URA M) (H : Heap 𝓤) (A : Atoms 𝓤) (W : Given
       nothing ! $ owned ! P.the-row (Is P.the-row) (EL.makes P.the-type P′.the-plain 𝓤 H A) p _ p-is $ fjoin ! $
       owned ! u32 (Is u32) (uint-makes 𝓤 H A W w32) n _ (refl, fits) $ fjoin ! $ move ! (1 ∷ 0 ∷ []) $ fjoin ! $ by ! (own-shut 𝓤 H A W (D α) (L α) (s, (n, (p, tt))))
 
-  module _ (C : Calls 𝓤 H) (Λ : Loops 𝓤 H) (fm : FmC 𝓤 H (W .laws) C) (known : Triple 𝓤 (C #fresh-place) (Fresh 𝓤 H A mem run)) where
+  module _ (C : Calls 𝓤 H) (Λ : Loops 𝓤 H) (fm : FmC 𝓤 H (W .laws) C) (known : Triple 𝓤 (C #fresh) (Fresh 𝓤 H A mem run)) where
     walk : Is (ShrSlice (named 0) κ u8) s (sliced s ∷ []) → ent 𝓤 (onEntry 𝓤 H A new.signature (κ, tt) (q, tt) x at) (WpFn 𝓤 H C Λ code.function (sliced s ∷ vint w32 n ∷ []) Post)
     walk s-is =
         qed W (raw (onEntry 𝓤 H A new.signature (κ, tt) (q, tt) x at) ∷ []) ∵ enter ! C Λ code.function (sliced s ∷ vint w32 n ∷ []) _ $
@@ -129,13 +129,13 @@ module _ {M : Type 1} (𝓤 : URA M) (H : Heap 𝓤) (A : Atoms 𝓤) (W : Given
         move ! (8 ∷ 9 ∷ []) $ free1 ! $ move ! (6 ∷ 7 ∷ []) $ free1 ! $ move ! (4 ∷ 5 ∷ []) $ free1 ! $ move ! (2 ∷ 3 ∷ []) $ free1 ! $ free0 ! $ by ! (exits p (place-is p _ is) e)))))))))
 
 module _ {M : Type 1} (𝓤 : URA M) (H : Heap 𝓤) (A : Atoms 𝓤) (W : Given 𝓤 H A) (mem : Memory → SProp 𝓤) (run : Routine → Fun 𝓤) where
-  new-walks : (C : Calls 𝓤 H) (Λ : Loops 𝓤 H) → FmC 𝓤 H (W .laws) C → Triple 𝓤 (C #fresh-place) (Fresh 𝓤 H A mem run)
+  new-walks : (C : Calls 𝓤 H) (Λ : Loops 𝓤 H) → FmC 𝓤 H (W .laws) C → Triple 𝓤 (C #fresh) (Fresh 𝓤 H A mem run)
       → Walks 𝓤 H A new.ended stayed (WpFn 𝓤 H C Λ code.function) (new.clauses 𝓤 H A mem run)
   new-walks C Λ fm known = walked 𝓤 H A new.ended stayed (new.clauses 𝓤 H A mem run) (WpFn 𝓤 H C Λ code.function) (λ κs. (slice-vals, (uint-vals w32, tt))) (λ κs. (shr-slice-tells (named 0) (κs .0) u8, (uint-tells w32, tt)))
       (λ κs qs bounds a g are. via 𝓤 _ (fst∗ 𝓤 _ (emp 𝓤)) (walk 𝓤 H A W mem run (κs .0) (qs .0) (a .0) (a .1 .0) (are .1 .0 .1) C Λ fm known (are .0)))
 
 new-meets : {M : Type 1} (𝓤 : URA M) (H : Heap 𝓤) (A : Atoms 𝓤) (W : Given 𝓤 H A) (mem : Memory → SProp 𝓤) (run : Routine → Fun 𝓤) (𝓣 : Tables 𝓤 H)
-    → Triple 𝓤 (𝓣 .C #fresh-place) (Fresh 𝓤 H A mem run)
+    → Triple 𝓤 (𝓣 .C #fresh) (Fresh 𝓤 H A mem run)
     → Meets 𝓤 H A new.signature (WpFn 𝓤 H (𝓣 .C) (𝓣 .Λ) code.function) (new.spec 𝓤 H A mem run)
 new-meets 𝓤 H A W mem run 𝓣 known = walk-meets 𝓤 H A new.ended stayed W (goes-none-slice 𝓤 H A W 1 (0 ∷ []) tt (plain (λ _. u8)) yes, (goes-none 𝓤 H A W 1 (λ _. u32) yes (λ κs x f. refl), tt)) (new.clauses 𝓤 H A mem run) (WpFn 𝓤 H (𝓣 .C) (𝓣 .Λ) code.function) (WpFn-mono 𝓤 H (W .laws) 𝓣 code.function)
     (new-walks 𝓤 H A W mem run (𝓣 .C) (𝓣 .Λ) (fmOf 𝓤 H (W .laws) 𝓣) known)
@@ -146,4 +146,4 @@ new-spec 𝓤 H 𝓜 𝓖 𝓡 =
     entered 𝓤 H (tripleOf 𝓤 H (𝓖 .A) new.signature (new.spec 𝓤 H (𝓖 .A) (𝓜 .mem) (𝓡 .run)))
     (tables 𝓤 H 𝓜 𝓡 code.env .C) (tables 𝓤 H 𝓜 𝓡 code.env .Λ) #new code.function (code.unfolded 𝓤 H 𝓜 𝓡)
     (new-meets 𝓤 H (𝓖 .A) (givenOf 𝓤 H 𝓜 𝓖) (𝓜 .mem) (𝓡 .run) (tablesOf 𝓤 H 𝓜 (tables 𝓤 H 𝓜 𝓡 code.env))
-    (cited 𝓤 H (Fresh 𝓤 H (𝓖 .A) (𝓜 .mem) (𝓡 .run)) 𝓜 𝓡 code.env #fresh-place fresh-def.routine code.calls-radiotap-reader·fresh-place (fresh-thm.met 𝓤 H 𝓜 𝓖 𝓡)))
+    (cited 𝓤 H (Fresh 𝓤 H (𝓖 .A) (𝓜 .mem) (𝓡 .run)) 𝓜 𝓡 code.env #fresh fresh-def.routine code.calls-radiotap-place·fresh (fresh-thm.met 𝓤 H 𝓜 𝓖 𝓡)))

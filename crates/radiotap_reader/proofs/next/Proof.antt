@@ -1,5 +1,5 @@
--- `radiotap_reader::next` meets its contract: a walk of its MIR, by hand. The reader is taken apart, and `answer_at` is called on the header, the edition and the place.
--- All that the proof knows of `answer_at` is that it meets its contract. A reader is Copy: what it owns is had twice, and one copy is kept whole for the exit.
+-- `radiotap_reader::next` meets its contract: a walk of its MIR, by hand. The reader is taken apart, and `radiotap_place::answer_at` is called on the header, the edition and the place.
+-- All that the proof knows of `radiotap_place::answer_at` is that it meets its contract. A reader is Copy: what it owns is had twice, and one copy is kept whole for the exit.
 -- Assumes nothing.
 use mathlib.Core.Path.{_≡_, refl}
 use mathlib.Core.List.{[], _∷_}
@@ -41,17 +41,17 @@ use Rattle.radiotap_step.specs.declared.Step.{Step}
 use Rattle.radiotap_step.specs.Says.{stepSays, StepSized}
 use Rattle.radiotap_step.proofs.Step as S
 use Rattle.radiotap_step.proofs.Step.Laws as S′
-use Rattle.radiotap_reader.specs.Reader.{answerAt}
-use Rattle.radiotap_reader.specs.Says.{placeSays}
+use Rattle.radiotap_place.specs.Places.{answerAt}
+use Rattle.radiotap_place.specs.Says.{placeSays}
 use Rattle.radiotap_reader.specs.declared.FieldReader.{FieldReader}
 use Rattle.radiotap_reader.proofs.Held.{B, D, L, held, Parts, apart, sliced, placed, place-of, says-both}
-use Rattle.radiotap_reader.proofs.Place as P
-use Rattle.radiotap_reader.proofs.Place.Laws as P′
+use Rattle.radiotap_place.proofs.Place as P
+use Rattle.radiotap_place.proofs.Place.Laws as P′
 use Rattle.radiotap_reader.proofs.FieldReader.Laws as T′
-use Rattle.radiotap_reader.proofs.answer_at as answer
-use Rattle.radiotap_reader.proofs.answer_at.Symbol as answer-def
-use Rattle.radiotap_reader.proofs.answer_at.Symbol.{name as #answer-at}
-use Rattle.radiotap_reader.proofs.answer_at.Met as answer-thm
+use Rattle.radiotap_place.proofs.answer_at as answer
+use Rattle.radiotap_place.proofs.answer_at.Symbol as answer-def
+use Rattle.radiotap_place.proofs.answer_at.Symbol.{name as #answer-at}
+use Rattle.radiotap_place.proofs.answer_at.Met as answer-thm
 use Rattle.radiotap_reader.proofs.next.Key.{name as #next}
 use Rattle.radiotap_reader.proofs.next as next
 use Rattle.radiotap_reader.proofs.next.Statement as stated
@@ -138,4 +138,4 @@ next-spec 𝓤 H 𝓜 𝓖 𝓡 =
     entered 𝓤 H (tripleOf 𝓤 H (𝓖 .A) next.signature (next.spec 𝓤 H (𝓖 .A) (𝓜 .mem) (𝓡 .run)))
     (tables 𝓤 H 𝓜 𝓡 code.env .C) (tables 𝓤 H 𝓜 𝓡 code.env .Λ) #next code.function (code.unfolded 𝓤 H 𝓜 𝓡)
     (next-meets 𝓤 H (𝓖 .A) (givenOf 𝓤 H 𝓜 𝓖) (𝓜 .mem) (𝓡 .run) (tablesOf 𝓤 H 𝓜 (tables 𝓤 H 𝓜 𝓡 code.env))
-    (cited 𝓤 H (AnswerAt 𝓤 H (𝓖 .A) (𝓜 .mem) (𝓡 .run)) 𝓜 𝓡 code.env #answer-at answer-def.routine code.calls-radiotap-reader·answer-at (answer-thm.met 𝓤 H 𝓜 𝓖 𝓡)))
+    (cited 𝓤 H (AnswerAt 𝓤 H (𝓖 .A) (𝓜 .mem) (𝓡 .run)) 𝓜 𝓡 code.env #answer-at answer-def.routine code.calls-radiotap-place·answer-at (answer-thm.met 𝓤 H 𝓜 𝓖 𝓡)))

@@ -23,9 +23,9 @@ enum-known-start c = search needs
 found-requires : tie.Need-found-requires
 found-requires c κs =
     let a = c .before .before .before .before .args in
-    let laid : layOf ourRules (a .edition) (a .bit) (a .cursor .at) ≡ lies (c .before .start .given .0 .0) (c .before .start .given .0 .1 .0) =
+    let laid : layOf ourRules (a .taken) (a .bit) (a .cursor .at) ≡ lies (c .before .start .given .0 .0) (c .before .start .given .0 .1 .0) =
     sym (c .before .before .before .lay .ensures) ∙ ap laySays (c .before .start .given .1) in
-    (c .before .before .before .before .pre .0, c .before .before .before .before .pre .1, omega (arith, lay-near ourRules (a .bit) (a .edition) (a .cursor .at) _ _ refl laid))
+    (c .before .before .before .before .pre .0, c .before .before .before .before .pre .1, omega (arith, lay-near ourRules (a .bit) (a .taken) (a .cursor .at) _ _ refl laid))
 
 returns : tie.Need-returns
 returns c =

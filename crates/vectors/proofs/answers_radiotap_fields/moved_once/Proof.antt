@@ -41,8 +41,8 @@ use Rattle.radiotap_step.specs.declared.Step.{Step}
 use Rattle.radiotap_step.specs.Says.{stepSays, StepSized}
 use Rattle.radiotap_step.proofs.Step as S
 use Rattle.radiotap_step.proofs.Step.Laws as S′
-use Rattle.radiotap_reader.specs.Reader.{freshPlace, movedOn, answerAt}
-use Rattle.radiotap_reader.specs.Says.{placeSays}
+use Rattle.radiotap_place.specs.Places.{freshPlace, movedOn, answerAt}
+use Rattle.radiotap_place.specs.Says.{placeSays}
 use Rattle.radiotap_reader.specs.declared.FieldReader.{FieldReader}
 use Rattle.radiotap_reader.proofs.Held.{B, D, L, sliced}
 use Rattle.radiotap_reader.proofs.new as new
