@@ -1,3 +1,3 @@
-pub mod ReadingLaws
+pub mod Exactly
 pub mod WritingLaws
 pub mod RoundTrip

@@ -3,82 +3,74 @@
 -- Assumes nothing.
 use Prim.Native.Nat.{ℕ, zero, suc, _+_, _≤_}
 use mathlib.Core.Path.{_≡_, refl, sym, ap, _∙_}
-use mathlib.Core.Bool.{Bool, true, false, cond}
 use mathlib.Core.List.{List, [], _∷_, _++_, append-assoc}
 use native.Mathlib.Omega.{arith}
 use lib.ListN.{length, take, drop, length-drop}
-use lib.Dec.{ltb}
-use borrow.Author.Tests.{le-ltb, le-leb, ltb-false, leb-true}
-use Rattle.refusals.specs.Refusals.{Answer, refused, given, shortHeader}
-use Rattle.refusals.proofs.Orders.{chosen}
+use Rattle.refusals.specs.Refusals.{given}
 use Rattle.octets.specs.Numbers.{little, octetsOf, numberAt, Octets}
 use Rattle.octets.specs.Signed.{signed, unsigned}
-use Rattle.octets.specs.Parts.{splice, hasRoom}
+use Rattle.octets.specs.Parts.{splice}
 use Rattle.octets.proofs.Laws as Numbers
 use Rattle.octets.proofs.Signs.{twos-complement}
 use Rattle.octets.proofs.PartLaws.{part-splice, length-splice, splice-before, splice-behind}
 use Rattle.le_rules.specs.declared.Values.{Values}
-use Rattle.le_rules.specs.Reading.{headerLength, valuesIn, Range, outOf, within, rangeOf, packetTest, Header, headerOf, judged, readingOf, packetOf, packetIn}
-use Rattle.le_rules.specs.Writing.{headerOctets, octetsFor, writingJudged, writing, written}
+use Rattle.le_rules.specs.Reading.{headerLength, valuesIn, within, leastPacket, Header, headerOf, readingOf, packetOf, packetIn}
+use Rattle.le_rules.specs.Writing.{headerOctets, octetsFor, writing, written}
+use Rattle.le_rules.specs.Exactly.{Judged, Reads, Writes}
+use Rattle.le_rules.proofs.Exactly.{reading-exactly, writing-exactly}
 use Rattle.le_rules.specs.RoundTrip.{Representable, OnlyWritten, ReadAfterWrite, WriteAfterRead}
+
+-- what an accepted write shows
+record AcceptedWrite (size at : ℕ) (v : Values) (packet : List ℕ) : Type 0 where
+  judged : Judged v within
+  enough : leastPacket (v .flags) ≤ length packet
+  room : at + (headerLength + length packet) ≤ size
+
+accepted-write : (size at next : ℕ) (v : Values) (packet : List ℕ) → writing size at v packet ≡ given next
+    → AcceptedWrite size at v packet
+accepted-write size at next v packet w = go (writing-exactly size at v packet (given next) .0 w)
+  where
+    go : {n : ℕ} → Writes size at v packet (given n) → AcceptedWrite size at v packet
+    go (Writes.accepted r p o) = record { judged = r; enough = p; room = o }
 
 -- what a header that is read shows
 record AcceptedRead (s : List ℕ) (h : Header) : Type 0 where
   long : headerLength ≤ length s
-  range : rangeOf (valuesIn s .channel) (valuesIn s .flags) ≡ within
-  enough : packetTest (valuesIn s .flags) (length (drop headerLength s)) ≡ true
+  judged : Judged (valuesIn s) within
+  enough : leastPacket (valuesIn s .flags) ≤ length (drop headerLength s)
   header : headerOf (valuesIn s) ≡ h
 
-reading-accepted : (s : List ℕ) (h : Header) → readingOf s ≡ given h → AcceptedRead s h
-unfolding readingOf
-reading-accepted s h = under (ltb (length s) headerLength) refl
+accepted-read : (s : List ℕ) (h : Header) → readingOf s ≡ given h → AcceptedRead s h
+accepted-read s h e = go (reading-exactly s (given h) .0 e)
   where
-    v : Values
-    v = valuesIn s
+    go : {h : Header} → Reads s (given h) → AcceptedRead s h
+    go (Reads.accepted l r p) = record { long = l; judged = r; enough = p; header = refl }
 
-    packet : ℕ
-    packet = length (drop headerLength s)
-
-    within-range : (r : Range) → rangeOf (v .channel) (v .flags) ≡ r → headerLength ≤ length s → judged packet v r ≡ given h
-        → AcceptedRead s h
-    within-range (outOf fault) r l e = let z : _≡_ {A = ℕ} 0 1 = cc in absurd (omega arith)
-    within-range within r l e =
-        let told = chosen (packetTest (v .flags) packet) _ _ e in
-        record { long = l; range = r; enough = told .0; header = cc }
-
-    under : (t : Bool) → ltb (length s) headerLength ≡ t
-        → cond t (refused shortHeader (length s)) (judged packet v (rangeOf (v .channel) (v .flags))) ≡ given h → AcceptedRead s h
-    under true t e = let z : _≡_ {A = ℕ} 0 1 = cc in absurd (omega arith)
-    under false t e = within-range (rangeOf (v .channel) (v .flags)) refl (ltb-false (length s) headerLength t) e
-
--- what an accepted write shows
-record AcceptedWrite (size at : ℕ) (v : Values) (packet : List ℕ) : Type 0 where
-  range : rangeOf (v .channel) (v .flags) ≡ within
-  enough : packetTest (v .flags) (length packet) ≡ true
-  room : at + (headerLength + length packet) ≤ size
-
-writing-accepted : (size at next : ℕ) (v : Values) (packet : List ℕ) → writing size at v packet ≡ given next
-    → AcceptedWrite size at v packet
-unfolding writing
-writing-accepted size at next v packet = go (rangeOf (v .channel) (v .flags)) refl
-  where
-    go : (r : Range) → rangeOf (v .channel) (v .flags) ≡ r → writingJudged size at v packet r ≡ given next
-        → AcceptedWrite size at v packet
-    go (outOf fault) e w = let z : _≡_ {A = ℕ} 0 1 = cc in absurd (omega arith)
-    go within e w =
-        let packetTold = chosen (packetTest (v .flags) (length packet)) _ _ w in
-        let roomTold = chosen (hasRoom size at (headerLength + length packet)) _ _ (packetTold .1) in
-        record { range = e; enough = packetTold .0; room = leb-true _ _ (roomTold .0) }
+-- values that agree field by field are the same
+same-values : (u v : Values) → u .channel ≡ v .channel → u .signal ≡ v .signal → u .noise ≡ v .noise
+    → u .offences ≡ v .offences → u .reference ≡ v .reference → u .flags ≡ v .flags → u ≡ v
+same-values u v channel signal noise offences reference flags =
+    λ i.
+    record {
+      channel = channel i;
+      signal = signal i;
+      noise = noise i;
+      offences = offences i;
+      reference = reference i;
+      flags = flags i;
+    }
 
 -- the octets written for values give the values back
 values-read : (v : Values) (packet : List ℕ) → Representable v → valuesIn (octetsFor v packet) ≡ v
 unfolding valuesIn headerOctets numberAt octetsOf
 values-read v packet f =
-    let signal : signed 8 (unsigned 8 (v .signal)) ≡ v .signal = twos-complement 7 .fromBits (v .signal) (f .signal) in
-    let noise : signed 8 (unsigned 8 (v .noise)) ≡ v .noise = twos-complement 7 .fromBits (v .noise) (f .noise) in
-    let reference = Numbers.read-after-write little 4 (v .reference) (f .reference) in
-    let flags = Numbers.read-after-write little 2 (v .flags) (f .flags) in
-    rw (signal, noise, reference, flags)
+    same-values (valuesIn (octetsFor v packet)) v
+    refl
+    (twos-complement 7 .fromBits (v .signal) (f .signal))
+    (twos-complement 7 .fromBits (v .noise) (f .noise))
+    refl
+    (Numbers.read-after-write little 4 (v .reference) (f .reference))
+    (Numbers.read-after-write little 2 (v .flags) (f .flags))
 
 -- they are ten, before the packet
 length-octets : (v : Values) (packet : List ℕ) → length (octetsFor v packet) ≡ headerLength + length packet
@@ -91,24 +83,26 @@ drop-octets v packet = refl
 
 -- reading what was written returns the values and the packet
 pub read-after-write : ReadAfterWrite
-unfolding readingOf written
+unfolding written
 read-after-write out at next v packet f w =
-    let a = writing-accepted (length out) at next v packet w in
+    let a = accepted-write (length out) at next v packet w in
     let s : List ℕ = octetsFor v packet in
     let size : length s ≡ headerLength + length packet = length-octets v packet in
+    let values = values-read v packet f in
+    let behind = drop-octets v packet in
     let header : readingOf s ≡ given (headerOf v) =
-    rw (le-ltb (length s) headerLength (omega arith), values-read v packet f, drop-octets v packet, a .range, a .enough) in
+    reading-exactly s (given (headerOf (valuesIn s))) .1 (Reads.accepted (omega arith) (rw values (a .judged)) (rw (values, behind) (a .enough))) ∙ rw values in
     record {
       octets = rw (w, ← size) (part-splice out at s (omega arith));
       header = header;
-      packetBack = ap (packetOf s) header ∙ drop-octets v packet;
+      packetBack = ap (packetOf s) header ∙ behind;
     }
 
 -- an accepted write changes only the octets written
 pub only-written : OnlyWritten
 unfolding written
 only-written out at next v packet w =
-    let a = writing-accepted (length out) at next v packet w in
+    let a = accepted-write (length out) at next v packet w in
     let s : List ℕ = octetsFor v packet in
     let size : length s ≡ headerLength + length packet = length-octets v packet in
     record {
@@ -146,16 +140,17 @@ octets-back s o l = go (octets-from headerLength s l) o
 -- and they can be written wherever there is room
 rewritten : (s : List ℕ) (h : Header) → AcceptedRead s h → (size at : ℕ) → at + length s ≤ size
     → writing size at (valuesIn s) (drop headerLength s) ≡ given (at + length s)
-unfolding writing
 rewritten s h a size at room =
-    let whole : at + (headerLength + length (drop headerLength s)) ≡ at + length s =
-    omega (arith, length-drop headerLength s) in
-    rw (a .range, a .enough, whole, le-leb (at + length s) size room)
+    let packet : List ℕ = drop headerLength s in
+    let whole : at + (headerLength + length packet) ≡ at + length s = omega (arith, length-drop headerLength s) in
+    writing-exactly size at (valuesIn s) packet (given (at + (headerLength + length packet))) .1
+    (Writes.accepted (a .judged) (a .enough) (omega arith))
+    ∙ rw whole
 
 -- writing what was read gives the very octets back
 pub write-after-read : WriteAfterRead
 write-after-read s h o e =
-    let a = reading-accepted s h e in
+    let a = accepted-read s h e in
     let values : h .values ≡ valuesIn s = ap (λ (x : Header). x .values) (sym (a .header)) in
     let packet : packetIn s ≡ drop headerLength s = ap (packetOf s) e in
     record {

@@ -7,12 +7,13 @@ ghost use Rattle.octets.specs.Parts.{splice};
 ghost use Rattle.octets.specs.Signed.{unsigned};
 ghost use Rattle.refusals.specs.Refusals.{refused as Refused};
 ghost use Rattle.refusals.specs.Says.{writeSays};
-ghost use Rattle.le_rules.specs.Reading.{faultNumber, within as withinRange, rangeOf};
+ghost use Rattle.le_rules.specs.Reading.{faultNumber, within as withinRange};
+ghost use Rattle.le_rules.specs.Exactly.{Judged};
 ghost use Rattle.le_rules.specs.Writing.{headerOctets, writing, written};
 ghost use Rattle.le_header.specs.Says.{faultSays};
 use le_header::Fault;
-use le_header::HEADER_LENGTH;
 use le_header::Range;
+use le_header::HEADER_LENGTH;
 use le_rules::Values;
 use refusals::WriteAnswer;
 
@@ -37,7 +38,7 @@ fn out_of_range(fault: Fault) -> WriteAnswer
 
 // Writes values in range and a packet.
 fn within(out: &mut [u8], place: usize, values: Values, packet: &[u8]) -> WriteAnswer
-    requires { ⌜ rangeOf (values .channel) (values .flags) ≡ withinRange ⌝ }
+    requires { ⌜ Judged values withinRange ⌝ }
     ensures { λ r. ⌜ writeSays r ≡ writing (length (now (out .entry))) place values (now (packet .entry)) ⌝ }
     ensures { λ _. ⌜ now (out .exit) ≡ written (now (out .entry)) place values (now (packet .entry)) ⌝ }
 {

@@ -2,8 +2,7 @@
 -- Assumes nothing.
 use mathlib.Core.Path.{sym, ap, _∙_}
 use Rattle.le_rules.specs.Reading.{judged}
-use Rattle.le_rules.proofs.ReadingLaws.{judged-out-of}
-use Rattle.le_header.specs.Says.{faultSays, rangeSays}
+use Rattle.le_header.specs.Says.{rangeSays}
 use borrow.Author.Needs.{needs}
 use Rattle.le_header.proofs.judged.Statement.{statement}
 use Rattle.le_header.proofs.judged.Tie as tie
@@ -28,8 +27,7 @@ returns c =
     let a = c .before .before .before .before .before .args in
     let fault = c .before .before .fault .given in
     let range = sym (c .before .before .before .before .judge .ensures) ∙ ap rangeSays (fault .1) in
-    let outcome = judged-out-of (a .packet) (a .values) (faultSays (fault .0 .0)) in
-    rw (c .refusal .ensures .0, c .refusal .ensures .1) (sym (ap (judged (a .packet) (a .values)) range ∙ outcome))
+    rw (c .refusal .ensures .0, c .refusal .ensures .1) (sym (ap (judged (a .packet) (a .values)) range))
 
 returns-2 : tie.Need-returns-2
 returns-2 c =

@@ -1,8 +1,8 @@
--- `le_header::within` meets its contract: the two case laws of values in range.
+-- `le_header::within` meets its contract: the packet's length against the least.
 -- Assumes nothing.
-use mathlib.Core.Path.{sym}
 use native.Mathlib.Omega.{arith}
-use Rattle.le_rules.proofs.ReadingLaws.{judged-few, judged-given}
+use borrow.Author.Tests.{le-leb, lt-leb}
+use Rattle.le_rules.specs.Reading.{leastPacket}
 use borrow.Author.Needs.{needs}
 use Rattle.le_header.proofs.within.Statement.{statement}
 use Rattle.le_header.proofs.within.Tie as tie
@@ -13,7 +13,7 @@ least-packet-requires c κs = search needs
 returns : tie.Need-returns
 returns c =
     let a = c .before .before .args in
-    sym (judged-few (a .packet) (a .values) (omega arith))
+    rw (lt-leb (leastPacket (a .values .flags)) (a .packet) (omega arith))
 
 told-requires : tie.Need-told-requires
 told-requires c κs = search needs
@@ -21,7 +21,7 @@ told-requires c κs = search needs
 returns-2 : tie.Need-returns-2
 returns-2 c =
     let a = c .before .before .before .args in
-    rw (c .told .ensures) (sym (judged-given (a .packet) (a .values) (omega arith)))
+    rw (c .told .ensures, le-leb (leastPacket (a .values .flags)) (a .packet) (omega arith))
 
 pub within-spec : {M : Type 1} → statement M
 within-spec = tie.close (tie.spec least-packet-requires returns told-requires returns-2)

@@ -1,4 +1,4 @@
--- `le_write::within` meets its contract: each way out is one outcome of the write.
+-- `le_write::within` meets its contract: each way out is one case of the write.
 -- Assumes nothing.
 use Prim.Native.Nat.{_+_, _≤_}
 use mathlib.Core.Path.{sym, _∙_}
@@ -7,8 +7,10 @@ use denote.Ref.{now}
 use native.Mathlib.Omega.{arith}
 use borrow.Author.Needs.{needs}
 use borrow.Author.Tests.{not-true, not-false, leb-true, leb-false}
+use Rattle.refusals.specs.Refusals.{refused, given, shortPacket, noRoom}
 use Rattle.le_rules.specs.Reading.{headerLength}
-use Rattle.le_rules.proofs.WritingLaws.{writing-few, writing-no-room, writing-given}
+use Rattle.le_rules.specs.Exactly.{Writes}
+use Rattle.le_rules.proofs.WritingLaws.{outcome}
 use Rattle.le_write.proofs.PutLaws.{packet-behind}
 use Rattle.le_write.proofs.within.Statement.{statement}
 use Rattle.le_write.proofs.within.Tie as tie
@@ -30,8 +32,10 @@ returns : tie.Need-returns
 returns c =
     let start = c .before .before .before .before .before in
     let a = start .args in
-    let outcome = writing-few (now (a .out)) (a .place) (a .values) (now (a .packet)) (start .pre) (omega arith) in
-    (c .write-refused .ensures ∙ sym (outcome .0), sym (outcome .1))
+    let told =
+    outcome (now (a .out)) (a .place) (a .values) (now (a .packet)) (refused shortPacket 0)
+    (Writes.few (start .pre) (omega arith)) in
+    (c .write-refused .ensures ∙ sym (told .0), sym (told .1))
 
 add-size : tie.Need-add-size
 add-size c = search needs
@@ -46,9 +50,11 @@ returns-2 : tie.Need-returns-2
 returns-2 c =
     let start = c .before .before .before .before .before .before .before in
     let a = start .args in
-    let few = leb-false _ _ (sym (c .before .before .has-room .ensures) ∙ not-true _ (c .before .if2 .taken)) in
-    let outcome = writing-no-room (now (a .out)) (a .place) (a .values) (now (a .packet)) (start .pre) (omega arith) few in
-    (c .write-refused2 .ensures ∙ sym (outcome .0), sym (outcome .1))
+    let past = leb-false _ _ (sym (c .before .before .has-room .ensures) ∙ not-true _ (c .before .if2 .taken)) in
+    let told =
+    outcome (now (a .out)) (a .place) (a .values) (now (a .packet)) (refused noRoom 0)
+    (Writes.full (start .pre) (omega arith) past) in
+    (c .write-refused2 .ensures ∙ sym (told .0), sym (told .1))
 
 header-requires : tie.Need-header-requires
 header-requires c κs = omega (arith, room (c .before))
@@ -70,14 +76,16 @@ returns-3 c =
     let fits = c .before .before .before .before .before .before .before .before in
     let start = fits .before .before .before .before .before .before in
     let a = start .args in
-    let outcome =
-    writing-given (now (a .out)) (a .place) (a .values) (now (a .packet)) (start .pre) (omega arith) (room fits) in
+    let next = a .place + (headerLength + length (now (a .packet))) in
+    let told =
+    outcome (now (a .out)) (a .place) (a .values) (now (a .packet)) (given next)
+    (Writes.accepted (start .pre) (omega arith) (room fits)) in
     let second = c .before .before in
     let first = second .before .before .before .before in
     let both =
     packet-behind (now (a .out)) (a .place) (a .values) (now (a .packet)) (room fits)
     (first .header .ensures) (second .put .ensures) in
-    (sym (outcome .0), both ∙ sym (outcome .1))
+    (sym (told .0), both ∙ sym (told .1))
 
 pub within-spec : {M : Type 1} → statement M
 within-spec =

@@ -4,7 +4,11 @@ use mathlib.Core.Path.{sym, ap, _∙_}
 use denote.Ref.{now}
 use borrow.Author.Needs.{needs}
 use Rattle.le_header.specs.Says.{faultSays, rangeSays}
-use Rattle.le_rules.proofs.WritingLaws.{writing-out-of}
+use Rattle.refusals.specs.Refusals.{refused}
+use Rattle.le_rules.specs.Reading.{faultNumber, outOf, within}
+use Rattle.le_rules.specs.Exactly.{Writes}
+use Rattle.le_rules.proofs.Exactly.{range-exactly}
+use Rattle.le_rules.proofs.WritingLaws.{outcome}
 use Rattle.le_write.proofs.write.Statement.{statement}
 use Rattle.le_write.proofs.write.Tie as tie
 
@@ -21,15 +25,20 @@ enum-told : tie.Need-enum-told
 enum-told c = search needs
 
 within-requires : tie.Need-within-requires
-within-requires c κs = sym (c .before .before .before .judge .ensures) ∙ ap rangeSays (c .before .enum-told .given .1)
+within-requires c κs =
+    let a = c .before .before .before .before .before .before .args in
+    range-exactly (a .values .channel) (a .values .flags) within .0
+    (sym (c .before .before .before .judge .ensures) ∙ ap rangeSays (c .before .enum-told .given .1))
 
 returns : tie.Need-returns
 returns c =
     let a = c .before .before .before .before .before .before .before .args in
     let fault = c .before .before .fault .given in
     let range = sym (c .before .before .before .before .judge .ensures) ∙ ap rangeSays (fault .1) in
-    let outcome = writing-out-of (now (a .out)) (a .place) (a .values) (now (a .packet)) (faultSays (fault .0 .0)) range in
-    (c .out-of-range .ensures ∙ sym (outcome .0), sym (outcome .1))
+    let f = faultSays (fault .0 .0) in
+    let case = Writes.fault f (range-exactly (a .values .channel) (a .values .flags) (outOf f) .0 range) in
+    let told = outcome (now (a .out)) (a .place) (a .values) (now (a .packet)) (refused (faultNumber f) 0) case in
+    (c .out-of-range .ensures ∙ sym (told .0), sym (told .1))
 
 same-length : tie.Need-same-length
 same-length c = search needs

@@ -1,29 +1,33 @@
--- `le_header::ranges::judge` meets its contract: the case laws of the judgement, test by test.
+-- `le_header::ranges::judge` meets its contract: each way out is one case of the judgement.
 -- Assumes nothing.
 use mathlib.Core.Path.{sym}
-use Rattle.le_rules.proofs.ReadingLaws.{range-channel, range-type, range-phy, range-within}
+use Rattle.le_rules.specs.Reading.{channelAbove, pduTypeReserved, phyReserved, outOf, within}
+use Rattle.le_rules.specs.Exactly.{channelFault, pduTypeFault, phyFault, noFault}
+use Rattle.le_rules.proofs.Exactly.{range-exactly}
 use Rattle.le_header.proofs.ranges.judge.Statement.{statement}
 use Rattle.le_header.proofs.ranges.judge.Tie as tie
 
 returns : tie.Need-returns
 returns c =
     let a = c .before .args in
-    sym (range-channel (a .channel) (a .flags) (c .if1 .taken))
+    sym (range-exactly (a .channel) (a .flags) (outOf channelAbove) .1 (channelFault (c .if1 .taken)))
 
 returns-2 : tie.Need-returns-2
 returns-2 c =
     let a = c .before .before .args in
-    sym (range-type (a .channel) (a .flags) (c .before .if1 .left) (c .if2 .taken))
+    sym (range-exactly (a .channel) (a .flags) (outOf pduTypeReserved) .1 (pduTypeFault (c .before .if1 .left) (c .if2 .taken)))
 
 returns-3 : tie.Need-returns-3
 returns-3 c =
     let a = c .before .before .before .args in
-    sym (range-phy (a .channel) (a .flags) (c .before .before .if1 .left) (c .before .if2 .left) (c .if3 .taken))
+    let case = phyFault (c .before .before .if1 .left) (c .before .if2 .left) (c .if3 .taken) in
+    sym (range-exactly (a .channel) (a .flags) (outOf phyReserved) .1 case)
 
 returns-4 : tie.Need-returns-4
 returns-4 c =
     let a = c .before .before .before .args in
-    sym (range-within (a .channel) (a .flags) (c .before .before .if1 .left) (c .before .if2 .left) (c .if3 .left))
+    let case = noFault (c .before .before .if1 .left) (c .before .if2 .left) (c .if3 .left) in
+    sym (range-exactly (a .channel) (a .flags) within .1 case)
 
 pub judge-spec : {M : Type 1} → statement M
 judge-spec = tie.close (tie.spec returns returns-2 returns-3 returns-4)
