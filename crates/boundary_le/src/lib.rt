@@ -2,16 +2,17 @@
 ghost use mathlib.Core.Path.{_≡_};
 ghost use Prim.Native.Nat.{_≤_};
 ghost use Rattle.refusals.specs.Refusals.{given};
-ghost use Rattle.le_header.specs.Says.{pduTypeNumber, phyNumber, auxiliaryNumber, dependentSays, knowledgeSays, toldSays, leSays};
+ghost use Rattle.le_flags.specs.Says.{pduTypeNumber, phyNumber, auxiliaryNumber, dependentSays, knowledgeSays, toldSays};
+ghost use Rattle.le_header.specs.Says.{leSays};
 ghost use Rattle.boundary_le.specs.Rows.{bitOf, knownBits, dependentNumber, leRow};
-use le_header::AuxiliaryKind;
-use le_header::Dependent;
-use le_header::HEADER_LENGTH;
-use le_header::Knowledge;
+use le_flags::AuxiliaryKind;
+use le_flags::Dependent;
+use le_flags::Knowledge;
+use le_flags::PduType;
+use le_flags::Phy;
+use le_flags::Told;
 use le_header::LeAnswer;
-use le_header::PduType;
-use le_header::Phy;
-use le_header::Told;
+use le_rules::HEADER_LENGTH;
 use le_rules::Values;
 
 // zalghimo_le

@@ -1,80 +1,12 @@
-// Reading the LE pseudo-header: ten octets, a packet, and what the flags tell.
+// Reading the LE pseudo-header: ten octets and a packet.
 ghost use mathlib.Core.Path.{_≡_};
 ghost use Rattle.le_rules.specs.Reading.{within as withinRange, valuesIn, rangeOf, judged as judgedOf, readingOf, packetIn};
 ghost use Rattle.le_header.specs.Says.{leSays};
-
-pub mod flags;
-pub mod ranges;
-
+use le_flags::Told;
+use le_ranges::Range;
+use le_rules::HEADER_LENGTH;
 use le_rules::Values;
 use refusals::Refusal;
-
-// The length of the pseudo-header, which is the place of the packet.
-pub const HEADER_LENGTH: usize = 10;
-
-// The PDU type (flags bits 7 to 9), in the order of source document 001, counted from 0.
-pub enum PduType {
-    AdvertisingOrData,
-    AuxiliaryAdvertising,
-    DataMasterToSlave,
-    DataSlaveToMaster,
-    ConnectedIsochronousMasterToSlave,
-    ConnectedIsochronousSlaveToMaster,
-    BroadcastIsochronous,
-    Reserved,
-}
-
-// The PHY (flags bits 14 and 15), in the order of source document 001, counted from 0.
-pub enum Phy {
-    Le1M,
-    Le2M,
-    LeCoded,
-    Reserved,
-}
-
-// The auxiliary kind (flags bits 12 and 13 for PDU type 1), in the order of source document 001, counted from 0.
-pub enum AuxiliaryKind {
-    AuxAdvInd,
-    AuxChainInd,
-    AuxSyncInd,
-    AuxScanRsp,
-}
-
-// What flags bits 12 and 13 tell: for PDU type 1 the auxiliary kind, otherwise whether the MIC was checked and passed.
-pub enum Dependent {
-    Auxiliary(AuxiliaryKind),
-    Mic { checked: bool, passed: bool },
-}
-
-// Whether a value is known.
-pub enum Knowledge {
-    Known,
-    Unknown,
-}
-
-// What the flags tell: each of four values as known or not, the PDU type, the PHY, and the bits that depend on the type.
-pub struct Told {
-    pub signal: Knowledge,
-    pub noise: Knowledge,
-    pub reference: Knowledge,
-    pub offences: Knowledge,
-    pub pdu: PduType,
-    pub phy: Phy,
-    pub dependent: Dependent,
-}
-
-// A value out of range: an RF channel above 39, PDU type 7, PHY 3.
-pub enum Fault {
-    ChannelAbove,
-    PduTypeReserved,
-    PhyReserved,
-}
-
-// Channel and flags judged: the first fault, or none.
-pub enum Range {
-    OutOf(Fault),
-    Within,
-}
 
 // What reading a pseudo-header answers: the refusal, or its values and what its flags tell.
 pub enum LeAnswer {
@@ -113,8 +45,8 @@ fn values(s: &[u8]) -> Values
 fn judged(packet: usize, values: Values) -> LeAnswer
     ensures { λ r. ⌜ leSays r ≡ judgedOf packet values (rangeOf (values .channel) (values .flags)) ⌝ }
 {
-    match ranges::judge(values.channel, values.flags) {
-        Range::OutOf(fault) => LeAnswer::Refused(ranges::refusal(fault)),
+    match le_ranges::judge(values.channel, values.flags) {
+        Range::OutOf(fault) => LeAnswer::Refused(le_ranges::refusal(fault)),
         Range::Within => within(packet, values),
     }
 }
@@ -123,7 +55,7 @@ fn judged(packet: usize, values: Values) -> LeAnswer
 fn within(packet: usize, values: Values) -> LeAnswer
     ensures { λ r. ⌜ leSays r ≡ judgedOf packet values withinRange ⌝ }
 {
-    if packet < ranges::least_packet(values.flags) {
+    if packet < le_ranges::least_packet(values.flags) {
         return LeAnswer::Refused(Refusal {
             number: refusals::SHORT_PACKET,
             place: HEADER_LENGTH,
@@ -131,7 +63,7 @@ fn within(packet: usize, values: Values) -> LeAnswer
     }
     LeAnswer::Read {
         values,
-        told: flags::told(values.flags),
+        told: le_flags::told_by(values.flags),
     }
 }
 

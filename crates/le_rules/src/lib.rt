@@ -1,5 +1,8 @@
-// Document 01's rules for the LE pseudo-header: the definitions that the promises of `le_header` and `le_write` cite, and
+// Document 01's rules for the LE pseudo-header: the definitions that the promises of the reader and the writer cite, and
 // the claims that follow from them (specs/).
+
+// The length of the pseudo-header, which is the place of the packet.
+pub const HEADER_LENGTH: usize = 10;
 
 // The values in a pseudo-header's ten octets.
 pub struct Values {

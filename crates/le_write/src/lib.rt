@@ -10,10 +10,10 @@ ghost use Rattle.refusals.specs.Says.{writeSays};
 ghost use Rattle.le_rules.specs.Reading.{faultNumber, within as withinRange};
 ghost use Rattle.le_rules.specs.Exactly.{Judged};
 ghost use Rattle.le_rules.specs.Writing.{headerOctets, writing, written};
-ghost use Rattle.le_header.specs.Says.{faultSays};
-use le_header::Fault;
-use le_header::Range;
-use le_header::HEADER_LENGTH;
+ghost use Rattle.le_ranges.specs.Says.{faultSays};
+use le_ranges::Fault;
+use le_ranges::Range;
+use le_rules::HEADER_LENGTH;
 use le_rules::Values;
 use refusals::WriteAnswer;
 
@@ -22,7 +22,7 @@ pub fn write(out: &mut [u8], place: usize, values: Values, packet: &[u8]) -> Wri
     ensures { λ r. ⌜ writeSays r ≡ writing (length (now (out .entry))) place values (now (packet .entry)) ⌝ }
     ensures { λ _. ⌜ now (out .exit) ≡ written (now (out .entry)) place values (now (packet .entry)) ⌝ }
 {
-    match le_header::ranges::judge(values.channel, values.flags) {
+    match le_ranges::judge(values.channel, values.flags) {
         Range::OutOf(fault) => out_of_range(fault),
         Range::Within => within(out, place, values, packet),
     }
@@ -32,7 +32,7 @@ pub fn write(out: &mut [u8], place: usize, values: Values, packet: &[u8]) -> Wri
 fn out_of_range(fault: Fault) -> WriteAnswer
     ensures { λ r. ⌜ writeSays r ≡ Refused (faultNumber (faultSays fault)) 0 ⌝ }
 {
-    let refusal = le_header::ranges::refusal(fault);
+    let refusal = le_ranges::refusal(fault);
     refusals::write_refused(refusal.number)
 }
 
@@ -42,7 +42,7 @@ fn within(out: &mut [u8], place: usize, values: Values, packet: &[u8]) -> WriteA
     ensures { λ r. ⌜ writeSays r ≡ writing (length (now (out .entry))) place values (now (packet .entry)) ⌝ }
     ensures { λ _. ⌜ now (out .exit) ≡ written (now (out .entry)) place values (now (packet .entry)) ⌝ }
 {
-    if packet.len() < le_header::ranges::least_packet(values.flags) {
+    if packet.len() < le_ranges::least_packet(values.flags) {
         return refusals::write_refused(refusals::SHORT_PACKET);
     }
     let size = HEADER_LENGTH + packet.len();

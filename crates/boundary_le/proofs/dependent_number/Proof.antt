@@ -1,8 +1,8 @@
 -- `boundary_le::dependent_number` meets its contract: each arm is the number of the case that the bits are.
 -- Assumes nothing.
 use mathlib.Core.Path.{sym, ap}
-use Rattle.le_header.specs.declared.Dependent.{Dependent}
-use Rattle.le_header.specs.Says.{dependentSays}
+use Rattle.le_flags.specs.declared.Dependent.{Dependent}
+use Rattle.le_flags.specs.Says.{dependentSays}
 use Rattle.boundary_le.specs.Rows.{dependentNumber}
 use borrow.Author.Needs.{needs}
 use Rattle.boundary_le.proofs.dependent_number.Statement.{statement}

@@ -2,7 +2,7 @@
 -- Assumes nothing.
 use mathlib.Core.Path.{sym, ap, _∙_}
 use Rattle.le_rules.specs.Reading.{judged}
-use Rattle.le_header.specs.Says.{rangeSays}
+use Rattle.le_ranges.specs.Says.{rangeSays}
 use borrow.Author.Needs.{needs}
 use Rattle.le_header.proofs.judged.Statement.{statement}
 use Rattle.le_header.proofs.judged.Tie as tie

@@ -15,13 +15,13 @@ returns c =
     let a = c .before .before .args in
     rw (lt-leb (leastPacket (a .values .flags)) (a .packet) (omega arith))
 
-told-requires : tie.Need-told-requires
-told-requires c κs = search needs
+told-by-requires : tie.Need-told-by-requires
+told-by-requires c κs = search needs
 
 returns-2 : tie.Need-returns-2
 returns-2 c =
     let a = c .before .before .before .args in
-    rw (c .told .ensures, le-leb (leastPacket (a .values .flags)) (a .packet) (omega arith))
+    rw (c .told-by .ensures, le-leb (leastPacket (a .values .flags)) (a .packet) (omega arith))
 
 pub within-spec : {M : Type 1} → statement M
-within-spec = tie.close (tie.spec least-packet-requires returns told-requires returns-2)
+within-spec = tie.close (tie.spec least-packet-requires returns told-by-requires returns-2)

@@ -3,7 +3,7 @@
 use mathlib.Core.Path.{sym, ap, _∙_}
 use denote.Ref.{now}
 use borrow.Author.Needs.{needs}
-use Rattle.le_header.specs.Says.{faultSays, rangeSays}
+use Rattle.le_ranges.specs.Says.{faultSays, rangeSays}
 use Rattle.refusals.specs.Refusals.{refused}
 use Rattle.le_rules.specs.Reading.{faultNumber, outOf, within}
 use Rattle.le_rules.specs.Exactly.{Writes}
