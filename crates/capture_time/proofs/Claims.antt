@@ -1,30 +1,21 @@
 -- The claims of specs/Claims.antt hold.
-use Prim.Native.Nat.{ℕ, suc, _+_, _-_, _*_, _/_, _%_, _<_, _≤_}
+use Prim.Native.Nat.{ℕ, _+_, _-_, _*_, _/_, _%_, _<_, _≤_}
 use mathlib.Core.Path.{_≡_, refl, sym, ap, ap₂, subst, _∙_}
 use mathlib.Core.Logic.{_↔_}
 use mathlib.Core.Bool.{Bool, true, false, cond, _||_}
 use native.Mathlib.Nat.{div-add-mod'}
 use native.Mathlib.Omega.{arith}
-use borrow.Author.Tests.{ltb-false}
+use borrow.Author.Tests.{le-ltb}
 use lib.Arith.{digits-div, digits-mod}
-use lib.Dec.{ltb}
 use lib.IntN.{ℤ, pos, negsuc, _+ℤ_, _*ℤ_, +ℤ-negℤ-cancel, -ℤ-+ℤ-cancel}
 use Rattle.refusals.specs.Refusals.{refused, given}
 use Rattle.capture_time.specs.Time.{inexpressible, unixEpoch, perSecond, lastMicrosecond, CaptureTime, at, unixMicroseconds, secondsOf, microsecondsOf, timeOf, belowRange, leavesRange, reading, fieldOf, unwritable, writing}
 use Rattle.capture_time.specs.Claims.{RoundsDown, Refuses, WritesBack, ReadsBack, Instants}
-use Rattle.capture_time.proofs.Laws.{sub-under, negative-seconds, writing-is}
+use Rattle.capture_time.proofs.Rounding.{within}
+use Rattle.capture_time.proofs.Laws.{writing-given, writable}
+use Rattle.capture_time.proofs.Fields.{up-from}
 
 -- ---- rounding down
-
--- u microseconds after −(n + 1) seconds
-up-from : (n u : ℕ) → u < perSecond → negsuc n *ℤ pos perSecond +ℤ pos u ≡ negsuc (n * perSecond + (lastMicrosecond - u))
-up-from n u h =
-    ap (λ (z : ℤ). z +ℤ pos u) (negative-seconds n)
-    ∙ sub-under u (suc (n * perSecond + lastMicrosecond)) (omega arith)
-    ∙ ap negsuc e
-  where
-    e : suc (n * perSecond + lastMicrosecond) - suc u ≡ n * perSecond + (lastMicrosecond - u)
-    e = omega arith
 
 exact : (d : ℤ) → secondsOf d *ℤ pos perSecond +ℤ pos (microsecondsOf d) ≡ d
 exact (pos n) = ap pos (div-add-mod' n perSecond)
@@ -32,10 +23,6 @@ exact (negsuc n) = up-from (n / perSecond) (lastMicrosecond - n % perSecond) (om
   where
     e : n / perSecond * perSecond + (lastMicrosecond - (lastMicrosecond - n % perSecond)) ≡ n
     e = omega arith
-
-within : (d : ℤ) → microsecondsOf d < perSecond
-within (pos n) = omega arith
-within (negsuc n) = omega arith
 
 only-seconds : (s : ℤ) (u : ℕ) → u < perSecond → secondsOf (s *ℤ pos perSecond +ℤ pos u) ≡ s
 only-seconds (pos n) u h = ap pos (digits-div n h)
@@ -84,33 +71,35 @@ refuses =
 -- ---- there and back
 
 -- what an answer gives, and that its test failed
-gives : {A : Type 0} (a b : A) (test : Bool) → cond test (refused inexpressible 0) (given a) ≡ given b → (test ≡ false) × (a ≡ b)
+gives : {A : Type 0} (a b : A) (test : Bool) → cond test (refused inexpressible 0) (given a) ≡ given b
+    → (test ≡ false) × (a ≡ b)
 gives a b true e = (cc, cc)
 gives a b false e = (refl, cc)
 
 pub writes-back : WritesBack
 unfolding reading
 writes-back field t inside e =
-    let g = gives (timeOf (unixMicroseconds field)) t (belowRange (unixMicroseconds field)) e in
+    let g = gives (timeOf d) t (belowRange d) e in
     ap (λ (x : CaptureTime). writing (x .seconds) (x .microseconds)) (sym (g .1))
-    ∙ writing-is (secondsOf (unixMicroseconds field)) (microsecondsOf (unixMicroseconds field))
-    (within (unixMicroseconds field)) whole inside
+    ∙ writing-given (secondsOf d) (microsecondsOf d)
+    (ap₂ _||_ (le-ltb lastMicrosecond (microsecondsOf d) few) (ap leavesRange whole ∙ inside))
+    ∙ ap given whole
   where
-    whole : fieldOf (secondsOf (unixMicroseconds field)) (microsecondsOf (unixMicroseconds field)) ≡ field
-    whole = ap (λ (z : ℤ). z +ℤ pos unixEpoch) (exact (unixMicroseconds field)) ∙ -ℤ-+ℤ-cancel field (pos unixEpoch)
+    d : ℤ
+    d = unixMicroseconds field
 
--- where neither of two tests holds, the first does not
-first-fails : (a b : Bool) → a || b ≡ false → a ≡ false
-first-fails true b e = e
-first-fails false b e = refl
+    whole : fieldOf (secondsOf d) (microsecondsOf d) ≡ field
+    whole = ap (λ (z : ℤ). z +ℤ pos unixEpoch) (exact d) ∙ -ℤ-+ℤ-cancel field (pos unixEpoch)
+
+    few : microsecondsOf d ≤ lastMicrosecond
+    few = let h = within d in omega arith
 
 -- the time of a field that was written is the one that was written
 time-written : (s : ℤ) (u : ℕ) (field : ℤ) → writing s u ≡ given field → timeOf (unixMicroseconds field) ≡ at s u
 unfolding writing
 time-written s u field e =
     let g = gives (fieldOf s u) field (unwritable s u) e in
-    let h : u ≤ lastMicrosecond = ltb-false lastMicrosecond u (first-fails (ltb lastMicrosecond u) (leavesRange (fieldOf s u)) (g .0)) in
-    let k : u < perSecond = omega arith in
+    let k : u < perSecond = writable s u (g .0) .0 in
     ap (λ (z : ℤ). timeOf (unixMicroseconds z)) (sym (g .1))
     ∙ ap timeOf (+ℤ-negℤ-cancel (s *ℤ pos perSecond +ℤ pos u) (pos unixEpoch))
     ∙ ap₂ at (only-seconds s u k) (only-microseconds s u k)
@@ -129,8 +118,10 @@ reads-back =
     record {
       returns = returned;
       refuses =
-          λ s u field e.
-          (λ r. refuses .reads field inexpressible 0 .0 r .0, λ b. refuses .reads field inexpressible 0 .1 (b, refl, refl));
+          λ s u field e. (
+            λ r. refuses .reads field inexpressible 0 .0 r .0,
+            λ b. refuses .reads field inexpressible 0 .1 (b, refl, refl),
+          );
     }
 
 -- ---- instants

@@ -1,4 +1,6 @@
 -- What the proofs of several functions use, and the proofs of the claims.
-mod Bits
-pub mod Laws
+mod Signed
+mod Rounding
+mod Laws
+mod Fields
 pub mod Claims

@@ -1,11 +1,9 @@
 // The time of a record: from the signed 64-bit field to seconds and microseconds, and back.
-ghost use Prim.Native.Nat.{_<_, _^_};
+ghost use Prim.Native.Nat.{_<_};
 ghost use mathlib.Core.Path.{_≡_};
-ghost use mathlib.Core.Bool.{true, false};
-ghost use lib.IntN.{pos, negsuc};
-ghost use lib.Signed.{ltZ};
+ghost use mathlib.Core.Bool.{false};
 ghost use Rattle.refusals.specs.Refusals.{given};
-ghost use Rattle.capture_time.specs.Time.{inexpressible, perSecond, timeOf, reading, writing};
+ghost use Rattle.capture_time.specs.Time.{inexpressible, perSecond, timeOf, belowRange, aboveRange, reading, fieldOf, unwritable, writing};
 ghost use Rattle.capture_time.specs.Answers.{timeSays, fieldSays};
 use refusals::Refusal;
 
@@ -13,15 +11,23 @@ use refusals::Refusal;
 pub const INEXPRESSIBLE: u32 = 14;
 
 // C of document 01: the field at which Unix time starts.
-const UNIX_EPOCH: u64 = 0x00DC_DDB3_0F2F_8000;
+const UNIX_EPOCH: i64 = 0x00DC_DDB3_0F2F_8000;
+// C in seconds.
+const UNIX_EPOCH_SECONDS: i64 = 62_168_256_000;
 // The microseconds of a second.
-const PER_SECOND: u64 = 1_000_000;
+const PER_SECOND: i64 = 1_000_000;
 // The most microseconds beside whole seconds.
 const LAST_MICROSECOND: u32 = 999_999;
-// 2^63: the signed 64-bit range is from −2^63 to 2^63 − 1.
-const SIGNED_LIMIT: u64 = 0x8000_0000_0000_0000;
-// Seconds on either side of Unix time's start that no field reaches. Fewer, as microseconds, fit 64 bits.
-const FAR_SECONDS: u64 = 10_000_000_000_000;
+// The first field that is read: C − 2^63.
+const EARLIEST_FIELD: i64 = -9_161_203_780_854_775_808;
+// The seconds of the first time that is written, at field −2^63.
+const EARLIEST_SECONDS: i64 = -9_285_540_292_855;
+// Its microseconds.
+const EARLIEST_MICROSECONDS: u32 = 224_192;
+// The seconds of the last time that is written, at field 2^63 − 1.
+const LATEST_SECONDS: i64 = 9_161_203_780_854;
+// Its microseconds.
+const LATEST_MICROSECONDS: u32 = 775_807;
 
 // What reading a field gives.
 pub enum TimeAnswer {
@@ -45,113 +51,81 @@ fn refused() -> Refusal
     }
 }
 
-// A number that is not negative, as an unsigned one.
-fn magnitude(number: i64) -> u64
-    requires { ⌜ ltZ number (pos 0) ≡ false ⌝ }
-    ensures { λ r. ⌜ number ≡ pos r ⌝ }
+// The time of so many Unix microseconds: seconds rounded down, and the microseconds above them.
+fn time_of(unix_microseconds: i64) -> TimeAnswer
+    ensures { λ r. ⌜ timeSays r ≡ given (timeOf «unix_microseconds») ⌝ }
 {
-    number as u64
-}
-
-// The n of a negative number −(n + 1).
-fn complement(number: i64) -> u64
-    requires { ⌜ ltZ number (pos 0) ≡ true ⌝ }
-    ensures { λ r. ⌜ (number ≡ negsuc r) × (r < 2 ^ 63) ⌝ }
-{
-    (!number) as u64
-}
-
-// The negative number −(n + 1).
-fn negative(n: u64) -> i64
-    requires { ⌜ n < 2 ^ 63 ⌝ }
-    ensures { λ r. ⌜ r ≡ negsuc n ⌝ }
-{
-    !(n as i64)
-}
-
-// The time n microseconds after Unix time's start.
-fn time_after(n: u64) -> TimeAnswer
-    ensures { λ r. ⌜ timeSays r ≡ given (timeOf (pos n)) ⌝ }
-{
-    TimeAnswer::Time {
-        seconds: (n / PER_SECOND) as i64,
-        microseconds: (n % PER_SECOND) as u32,
+    let quotient = unix_microseconds / PER_SECOND;
+    let remainder = unix_microseconds % PER_SECOND;
+    if remainder < 0 {
+        TimeAnswer::Time {
+            seconds: quotient - 1,
+            microseconds: (remainder + PER_SECOND) as u32,
+        }
+    } else {
+        TimeAnswer::Time {
+            seconds: quotient,
+            microseconds: remainder as u32,
+        }
     }
 }
 
-// The time n + 1 microseconds before Unix time's start.
-fn time_before(n: u64) -> TimeAnswer
-    ensures { λ r. ⌜ timeSays r ≡ given (timeOf (negsuc n)) ⌝ }
-{
-    TimeAnswer::Time {
-        seconds: negative(n / PER_SECOND),
-        microseconds: LAST_MICROSECOND - (n % PER_SECOND) as u32,
-    }
-}
-
-// The time of a field. Refuses one that lies more than 2^63 microseconds before Unix time's start.
+// The time of a field. Refuses one whose Unix microseconds are below −2^63.
 pub fn read_time(field: i64) -> TimeAnswer
     ensures { λ r. ⌜ timeSays r ≡ reading field ⌝ }
 {
-    if field < 0 {
-        let n = complement(field) + UNIX_EPOCH;
-        if n < SIGNED_LIMIT {
-            time_before(n)
-        } else {
-            TimeAnswer::Refused(refused())
-        }
+    if field < EARLIEST_FIELD {
+        TimeAnswer::Refused(refused())
     } else {
-        let n = magnitude(field);
-        if n < UNIX_EPOCH {
-            time_before(UNIX_EPOCH - 1 - n)
-        } else {
-            time_after(n - UNIX_EPOCH)
-        }
+        time_of(field - UNIX_EPOCH)
     }
 }
 
-// The field of a time n seconds and some microseconds after Unix time's start.
-fn field_after(n: u64, microseconds: u32) -> FieldAnswer
+// Whether the field of a time is below −2^63.
+fn below_range(seconds: i64, microseconds: u32) -> bool
     requires { ⌜ microseconds < perSecond ⌝ }
-    ensures { λ r. ⌜ fieldSays r ≡ writing (pos n) microseconds ⌝ }
+    ensures { λ r. ⌜ r ≡ belowRange (fieldOf seconds microseconds) ⌝ }
 {
-    if n < FAR_SECONDS {
-        let field = n * PER_SECOND + microseconds as u64 + UNIX_EPOCH;
-        if field < SIGNED_LIMIT {
-            return FieldAnswer::Field(field as i64);
-        }
-    }
-    FieldAnswer::Refused(refused())
+    seconds < EARLIEST_SECONDS
+        || seconds == EARLIEST_SECONDS && microseconds < EARLIEST_MICROSECONDS
 }
 
-// The field of a time n + 1 seconds before Unix time's start, and some microseconds after that.
-fn field_before(n: u64, microseconds: u32) -> FieldAnswer
+// Whether the field of a time is above 2^63 − 1.
+fn above_range(seconds: i64, microseconds: u32) -> bool
     requires { ⌜ microseconds < perSecond ⌝ }
-    ensures { λ r. ⌜ fieldSays r ≡ writing (negsuc n) microseconds ⌝ }
+    ensures { λ r. ⌜ r ≡ aboveRange (fieldOf seconds microseconds) ⌝ }
 {
-    if n < FAR_SECONDS {
-        let back = (n + 1) * PER_SECOND;
-        let start = UNIX_EPOCH + microseconds as u64;
-        if back <= start {
-            return FieldAnswer::Field((start - back) as i64);
-        }
-        let below = back - start - 1;
-        if below < SIGNED_LIMIT {
-            return FieldAnswer::Field(negative(below));
-        }
+    seconds > LATEST_SECONDS || seconds == LATEST_SECONDS && microseconds > LATEST_MICROSECONDS
+}
+
+// Whether a time cannot be written.
+fn unwritable(seconds: i64, microseconds: u32) -> bool
+    ensures { λ r. ⌜ r ≡ unwritable seconds microseconds ⌝ }
+{
+    microseconds > LAST_MICROSECOND
+        || (below_range(seconds, microseconds) || above_range(seconds, microseconds))
+}
+
+// The field of a time that can be written.
+fn field_of(seconds: i64, microseconds: u32) -> i64
+    requires { ⌜ unwritable seconds microseconds ≡ false ⌝ }
+    ensures { λ r. ⌜ r ≡ fieldOf seconds microseconds ⌝ }
+{
+    let whole = seconds + UNIX_EPOCH_SECONDS;
+    if whole < 0 {
+        (whole + 1) * PER_SECOND + (microseconds as i64 - PER_SECOND)
+    } else {
+        whole * PER_SECOND + microseconds as i64
     }
-    FieldAnswer::Refused(refused())
 }
 
 // The field of a time. Refuses more than 999,999 microseconds, and a field that leaves the signed 64-bit range.
 pub fn write_time(seconds: i64, microseconds: u32) -> FieldAnswer
     ensures { λ r. ⌜ fieldSays r ≡ writing seconds microseconds ⌝ }
 {
-    if microseconds > LAST_MICROSECOND {
+    if unwritable(seconds, microseconds) {
         FieldAnswer::Refused(refused())
-    } else if seconds < 0 {
-        field_before(complement(seconds), microseconds)
     } else {
-        field_after(magnitude(seconds), microseconds)
+        FieldAnswer::Field(field_of(seconds, microseconds))
     }
 }

@@ -1,83 +1,51 @@
--- `capture_time::read_time` meets its contract: a return for each of the laws of reading.
-use mathlib.Core.Path.{ap, ap₂, sym, _∙_}
+-- `capture_time::read_time` meets its contract: a field is refused, or its Unix microseconds fit and give the time.
+use Prim.Native.Nat.{ℕ, _-_}
+use mathlib.Core.Path.{_≡_, ap, ap₂, sym, _∙_}
 use native.Mathlib.Omega.{arith}
 use borrow.Author.Needs.{needs}
-use Rattle.refusals.specs.Refusals.{refused}
-use Rattle.capture_time.specs.Time.{reading}
-use Rattle.capture_time.proofs.Bits.{passed}
-use Rattle.capture_time.proofs.Laws.{reading-after, reading-before, reading-negative, reading-refused}
+use lib.IntN.{ℤ, negsuc, _+ℤ_}
+use mir.Syntax.{w64}
+use mir.Val.{SFits}
+use mir.Facts.{toZ-ofZ}
+use Rattle.refusals.specs.Refusals.{refused, given}
+use Rattle.capture_time.specs.Time.{unixEpoch, unixMicroseconds, timeOf}
+use Rattle.capture_time.proofs.Signed.{held, fits-as, kept, held-below}
+use Rattle.capture_time.proofs.Laws.{reading-refused, reading-given, unix-fits}
 use Rattle.capture_time.proofs.read_time.Statement.{statement}
 use Rattle.capture_time.proofs.read_time.Tie as tie
-
-complement-requires : tie.Need-complement-requires
-complement-requires c κs = search needs
-
-add-n : tie.Need-add-n
-add-n c = search needs
-
-time-before-requires : tie.Need-time-before-requires
-time-before-requires c κs = search needs
 
 refused-requires : tie.Need-refused-requires
 refused-requires c κs = search needs
 
-magnitude-requires : tie.Need-magnitude-requires
-magnitude-requires c κs = search needs
+-- n + 1 is taken from the field
+less : (c : tie.Start) (n : ℕ) → n ≡ unixEpoch - 1
+    → held (c .args .field) +ℤ negsuc n ≡ unixMicroseconds (c .args .field)
+less c n is = ap₂ (λ (z : ℤ) (m : ℕ). z +ℤ negsuc m) (toZ-ofZ (c .fits .field)) is
 
-sub-time-before : tie.Need-sub-time-before
-sub-time-before c = search needs
+fits : (c : tie.Else1) → SFits w64 (unixMicroseconds (c .before .args .field))
+fits c =
+    let f = c .before .fits .field in
+    unix-fits _ (c .before .args .field) f (held-below f _ (c .if1 .left)) (omega arith)
 
-sub-time-before-2 : tie.Need-sub-time-before-2
-sub-time-before-2 c = search needs
+sub-time-of : tie.Need-sub-time-of
+sub-time-of c = fits-as (less (c .before) _ (omega arith)) (fits c)
 
-time-before-requires-2 : tie.Need-time-before-requires-2
-time-before-requires-2 c κs = search needs
-
-time-after-requires : tie.Need-time-after-requires
-time-after-requires c κs = search needs
+time-of-requires : tie.Need-time-of-requires
+time-of-requires c κs = search needs
 
 returns : tie.Need-returns
 returns c =
-    c .time-before .ensures
-    ∙ sym
-    (ap reading (passed (c .before .before .before .before .fits .field) (c .before .before .complement .ensures .0))
-    ∙ reading-negative (c .before .before .complement .result) (omega arith))
+    let s = c .before .before in
+    ap₂ refused (c .refused .ensures .0) (c .refused .ensures .1)
+    ∙ sym (reading-refused _ (s .args .field) (held-below (s .fits .field) _ (c .before .if1 .taken)) (omega arith))
 
 returns-2 : tie.Need-returns-2
 returns-2 c =
-    ap₂ refused (c .refused .ensures .0) (c .refused .ensures .1)
-    ∙ sym
-    (ap reading (passed (c .before .before .before .before .fits .field) (c .before .before .complement .ensures .0))
-    ∙ reading-refused (c .before .before .complement .result) (omega arith))
-
-returns-3 : tie.Need-returns-3
-returns-3 c =
-    c .time-before2 .ensures
-    ∙ sym
-    (ap reading (passed (c .before .before .before .before .fits .field) (c .before .before .magnitude .ensures))
-    ∙ reading-before (c .before .before .magnitude .result) (omega arith))
-
-returns-4 : tie.Need-returns-4
-returns-4 c =
-    c .time-after .ensures
-    ∙ sym
-    (ap reading (passed (c .before .before .before .before .fits .field) (c .before .before .magnitude .ensures))
-    ∙ reading-after (c .before .before .magnitude .result) (omega arith))
+    let s = c .before .before in
+    c .time-of .ensures
+    ∙ ap (λ (z : ℤ). given (timeOf z)) (kept (less s _ (omega arith)) (fits (c .before)))
+    ∙ sym (reading-given _ (s .args .field) (held-below (s .fits .field) _ (c .before .if1 .left)) (omega arith))
 
 pub read-time-spec : {M : Type 1} → statement M
 read-time-spec =
-    tie.close
-    (tie.spec
-    complement-requires
-    add-n
-    time-before-requires
-    refused-requires
-    magnitude-requires
-    sub-time-before
-    sub-time-before-2
-    time-before-requires-2
-    time-after-requires
-    returns
-    returns-2
-    returns-3
-    returns-4)
+    tie.close (tie.spec refused-requires sub-time-of time-of-requires returns returns-2)

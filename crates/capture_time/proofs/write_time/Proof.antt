@@ -1,56 +1,46 @@
--- `capture_time::write_time` meets its contract: too many microseconds, or the field of either sign.
-use mathlib.Core.Path.{ap, ap₂, sym, _∙_}
-use native.Mathlib.Omega.{arith}
+-- `capture_time::write_time` meets its contract: a time that cannot be written is refused, and any other has its field.
+use mathlib.Core.Path.{_≡_, ap, ap₂, sym, _∙_}
 use borrow.Author.Needs.{needs}
 use lib.IntN.{ℤ}
-use Rattle.refusals.specs.Refusals.{refused}
-use Rattle.capture_time.specs.Time.{writing}
-use Rattle.capture_time.proofs.Bits.{passed}
-use Rattle.capture_time.proofs.Laws.{writing-many}
+use mir.Facts.{toZ-ofZ}
+use Rattle.refusals.specs.Refusals.{refused, given}
+use Rattle.capture_time.specs.Time.{fieldOf, unwritable}
+use Rattle.capture_time.proofs.Signed.{kept}
+use Rattle.capture_time.proofs.Laws.{writing-refused, writing-given, writable}
 use Rattle.capture_time.proofs.write_time.Statement.{statement}
 use Rattle.capture_time.proofs.write_time.Tie as tie
+
+unwritable-requires : tie.Need-unwritable-requires
+unwritable-requires c κs = search needs
 
 refused-requires : tie.Need-refused-requires
 refused-requires c κs = search needs
 
-complement-requires : tie.Need-complement-requires
-complement-requires c κs = search needs
+-- what `unwritable` tells
+told : (c : tie.After-unwritable)
+    → unwritable (c .before .args .seconds) (c .before .args .microseconds) ≡ c .unwritable .result
+told c =
+    ap (λ (z : ℤ). unwritable z (c .before .args .microseconds)) (sym (toZ-ofZ (c .before .fits .seconds)))
+    ∙ sym (c .unwritable .ensures)
 
-field-before-requires : tie.Need-field-before-requires
-field-before-requires c κs = search needs
-
-magnitude-requires : tie.Need-magnitude-requires
-magnitude-requires c κs = search needs
-
-field-after-requires : tie.Need-field-after-requires
-field-after-requires c κs = search needs
+field-of-requires : tie.Need-field-of-requires
+field-of-requires c κs = sym (c .before .unwritable .ensures) ∙ c .if1 .left
 
 returns : tie.Need-returns
 returns c =
+    let a = c .before .before .before .args in
     ap₂ refused (c .refused .ensures .0) (c .refused .ensures .1)
-    ∙ sym (writing-many (c .before .before .args .seconds) (c .before .before .args .microseconds) (omega arith))
+    ∙ sym (writing-refused (a .seconds) (a .microseconds) (told (c .before .before) ∙ c .before .if1 .taken))
 
 returns-2 : tie.Need-returns-2
 returns-2 c =
-    c .field-before .ensures
-    ∙ sym (ap (λ (s : ℤ). writing s (c .before .before .before .before .args .microseconds))
-    (passed (c .before .before .before .before .fits .seconds) (c .before .complement .ensures .0)))
-
-returns-3 : tie.Need-returns-3
-returns-3 c =
-    c .field-after .ensures
-    ∙ sym (ap (λ (s : ℤ). writing s (c .before .before .before .before .args .microseconds))
-    (passed (c .before .before .before .before .fits .seconds) (c .before .magnitude .ensures)))
+    let s = c .before .before .before in
+    let a = s .args in
+    let can = told (c .before .before) ∙ c .before .if1 .left in
+    let field = c .field-of .ensures ∙ ap (λ (z : ℤ). fieldOf z (a .microseconds)) (toZ-ofZ (s .fits .seconds)) in
+    ap given (kept field (writable (a .seconds) (a .microseconds) can .1))
+    ∙ sym (writing-given (a .seconds) (a .microseconds) can)
 
 pub write-time-spec : {M : Type 1} → statement M
 write-time-spec =
-    tie.close
-    (tie.spec
-    refused-requires
-    complement-requires
-    field-before-requires
-    magnitude-requires
-    field-after-requires
-    returns
-    returns-2
-    returns-3)
+    tie.close (tie.spec unwritable-requires refused-requires field-of-requires returns returns-2)
