@@ -3,7 +3,7 @@ ghost use mathlib.Core.Path.{_≡_};
 ghost use Rattle.vectors.specs.Questions.{isAmong};
 use crate::question_lines;
 use crate::question_lines::low32;
-use boundary::Written;
+use boundary_write::Written;
 
 // Writes the answer behind its number; tells whether the question is one of these.
 pub fn answer(op: u8, q: &[u8], first: &[u8], second: &[u8]) -> bool

@@ -3,18 +3,17 @@ ghost use mathlib.Core.Path.{_≡_};
 ghost use lib.ListN.{length};
 ghost use Rattle.le_rules.specs.Reading.{readingOf};
 ghost use Rattle.le_rules.specs.Writing.{writing, written};
-ghost use Rattle.boundary.specs.Rows.{writtenRow};
+ghost use Rattle.boundary_write.specs.Rows.{writtenRow};
 ghost use Rattle.boundary_le.specs.Rows.{leRow, leValues};
-use boundary::Written;
 use boundary_le::Le;
-use le_rules::Values;
+use boundary_write::Written;
 
 // Reads an LE pseudo-header.
 #[no_mangle]
 pub extern "C" fn zalghimo_le_read(input: &[u8]) -> Le
     ensures { λ r. ⌜ r ≡ leRow (readingOf (now (input .entry))) ⌝ }
 {
-    boundary_le::row(le_header::read(input))
+    zalghimo_le::read(input)
 }
 
 // Writes an LE pseudo-header and its packet into an output at a place.
@@ -33,17 +32,15 @@ pub extern "C" fn zalghimo_le_write(
     ensures { λ r. ⌜ r ≡ writtenRow (writing (length (now (output .entry))) place (leValues «rf_channel» signal noise offences reference flags) (now (packet .entry))) ⌝ }
     ensures { λ _. ⌜ now (output .exit) ≡ written (now (output .entry)) place (leValues «rf_channel» signal noise offences reference flags) (now (packet .entry)) ⌝ }
 {
-    boundary::btsnoop_rows::written(le_write::write(
+    zalghimo_le::write(
         output,
         place,
-        Values {
-            channel: rf_channel,
-            signal,
-            noise,
-            offences,
-            reference,
-            flags,
-        },
+        rf_channel,
+        signal,
+        noise,
+        offences,
+        reference,
+        flags,
         packet,
-    ))
+    )
 }

@@ -13,30 +13,32 @@ ghost use Rattle.radiotap_rules.specs.Table.{ourRules};
 ghost use Rattle.radiotap_rules.specs.Reading.{reading as readingIn, fieldOf};
 ghost use Rattle.radiotap_rules.specs.Answers.{wordNumber, summary, listedInto};
 ghost use Rattle.radiotap_rules.specs.Writing.{writing as writingIn, written as writtenIn};
+ghost use Rattle.boundary_write.specs.Rows.{writtenRow};
+ghost use Rattle.boundary_btsnoop.specs.Rows.{headerRow, fileRow, recordRow, surveyRow, earlierRow};
+ghost use Rattle.boundary_time.specs.Rows.{timeRow, timeFieldRow};
 ghost use Rattle.boundary_radiotap.specs.Rows.{radiotapRow, wordRow, fieldRow};
-ghost use Rattle.boundary.specs.Rows.{headerRow, fileRow, recordRow, surveyRow, earlierRow, timeRow, timeFieldRow, writtenRow};
 
 pub mod le;
 pub mod tallying;
 
-use boundary::Earlier;
-use boundary::File;
-use boundary::Header;
-use boundary::Record;
-use boundary::Survey;
-use boundary::Time;
-use boundary::TimeField;
-use boundary::Written;
+use boundary_btsnoop::Earlier;
+use boundary_btsnoop::File;
+use boundary_btsnoop::Header;
+use boundary_btsnoop::Record;
+use boundary_btsnoop::Survey;
 use boundary_radiotap::Field;
 use boundary_radiotap::Radiotap;
 use boundary_radiotap::Word;
+use boundary_time::Time;
+use boundary_time::TimeField;
+use boundary_write::Written;
 
 // Reads the file header of a BTSnoop file.
 #[no_mangle]
 pub extern "C" fn zalghimo_btsnoop_header(input: &[u8]) -> Header
     ensures { λ r. ⌜ r ≡ headerRow (headerAt (now (input .entry))) ⌝ }
 {
-    boundary::btsnoop_rows::header(btsnoop_header::read(input))
+    zalghimo_btsnoop::header(input)
 }
 
 // Checks a whole BTSnoop file.
@@ -44,7 +46,7 @@ pub extern "C" fn zalghimo_btsnoop_header(input: &[u8]) -> Header
 pub extern "C" fn zalghimo_btsnoop_check(input: &[u8]) -> File
     ensures { λ r. ⌜ r ≡ fileRow (fileAt (now (input .entry))) ⌝ }
 {
-    boundary::btsnoop_rows::file(btsnoop_survey::check(input))
+    zalghimo_btsnoop::check(input)
 }
 
 // Reads the record at a place.
@@ -52,7 +54,7 @@ pub extern "C" fn zalghimo_btsnoop_check(input: &[u8]) -> File
 pub extern "C" fn zalghimo_btsnoop_record(input: &[u8], place: usize) -> Record
     ensures { λ r. ⌜ r ≡ recordRow (recordAt (now (input .entry)) place) ⌝ }
 {
-    boundary::btsnoop_rows::record(btsnoop_record::read(input, place))
+    zalghimo_btsnoop::record(input, place)
 }
 
 // Surveys the records from a place on, passing at most a number of them.
@@ -60,7 +62,7 @@ pub extern "C" fn zalghimo_btsnoop_record(input: &[u8], place: usize) -> Record
 pub extern "C" fn zalghimo_btsnoop_survey(input: &[u8], place: usize, number: usize) -> Survey
     ensures { λ r. ⌜ r ≡ surveyRow (surveyAt (now (input .entry)) place number) ⌝ }
 {
-    boundary::btsnoop_rows::survey(btsnoop_survey::survey(input, place, number))
+    zalghimo_btsnoop::survey(input, place, number)
 }
 
 // Finds the earlier of two captures' records, each at a place.
@@ -73,7 +75,7 @@ pub extern "C" fn zalghimo_btsnoop_earlier(
 ) -> Earlier
     ensures { λ r. ⌜ r ≡ earlierRow (earlierOf (now (first .entry)) «first_at» (now (second .entry)) «second_at») ⌝ }
 {
-    boundary::btsnoop_rows::earlier(btsnoop_earlier::answer(first, first_at, second, second_at))
+    zalghimo_btsnoop::earlier(first, first_at, second, second_at)
 }
 
 // Reads a record's time field as Unix seconds and microseconds.
@@ -81,7 +83,7 @@ pub extern "C" fn zalghimo_btsnoop_earlier(
 pub extern "C" fn zalghimo_btsnoop_read_time(field: i64) -> Time
     ensures { λ r. ⌜ r ≡ timeRow (reading field) ⌝ }
 {
-    boundary::time_rows::time(capture_time::read_time(field))
+    zalghimo_time::read_time(field)
 }
 
 // Writes Unix seconds and microseconds as a record's time field.
@@ -89,7 +91,7 @@ pub extern "C" fn zalghimo_btsnoop_read_time(field: i64) -> Time
 pub extern "C" fn zalghimo_btsnoop_write_time(seconds: i64, microseconds: u32) -> TimeField
     ensures { λ r. ⌜ r ≡ timeFieldRow (writing seconds microseconds) ⌝ }
 {
-    boundary::time_rows::time_field(capture_time::write_time(seconds, microseconds))
+    zalghimo_time::write_time(seconds, microseconds)
 }
 
 // The drops between two records.
@@ -97,7 +99,7 @@ pub extern "C" fn zalghimo_btsnoop_write_time(seconds: i64, microseconds: u32) -
 pub extern "C" fn zalghimo_btsnoop_drops(earlier: u32, later: u32) -> u32
     ensures { λ r. ⌜ r ≡ dropsBetween earlier later ⌝ }
 {
-    btsnoop_drops::between(earlier, later)
+    zalghimo_time::drops(earlier, later)
 }
 
 // Writes a BTSnoop file header into an output at a place.
@@ -110,7 +112,7 @@ pub extern "C" fn zalghimo_btsnoop_write_header(
     ensures { λ r. ⌜ r ≡ writtenRow (headerWriting (length (now (output .entry))) place datalink) ⌝ }
     ensures { λ _. ⌜ now (output .exit) ≡ headerWritten (now (output .entry)) place datalink ⌝ }
 {
-    boundary::btsnoop_rows::written(btsnoop_write::header(output, place, datalink))
+    zalghimo_btsnoop_write::header(output, place, datalink)
 }
 
 // Writes a BTSnoop record into an output at a place.
@@ -127,15 +129,7 @@ pub extern "C" fn zalghimo_btsnoop_write_record(
     ensures { λ r. ⌜ r ≡ writtenRow (recordWriting (length (now (output .entry))) place original (now (packet .entry))) ⌝ }
     ensures { λ _. ⌜ now (output .exit) ≡ recordWritten (now (output .entry)) place original flags drops time (now (packet .entry)) ⌝ }
 {
-    boundary::btsnoop_rows::written(btsnoop_write::record(
-        output,
-        place,
-        original,
-        flags,
-        drops,
-        time,
-        packet,
-    ))
+    zalghimo_btsnoop_write::record(output, place, original, flags, drops, time, packet)
 }
 
 // Reads a radiotap header in an edition.
@@ -143,7 +137,7 @@ pub extern "C" fn zalghimo_btsnoop_write_record(
 pub extern "C" fn zalghimo_radiotap_read(input: &[u8], edition: u32) -> Radiotap
     ensures { λ r. ⌜ r ≡ radiotapRow (summary (now (input .entry)) (readingIn ourRules edition (now (input .entry)))) ⌝ }
 {
-    boundary_radiotap::rows::radiotap(radiotap::read(input, edition))
+    zalghimo_radiotap::read(input, edition)
 }
 
 // Reads a presence word of a radiotap header by its number.
@@ -151,7 +145,7 @@ pub extern "C" fn zalghimo_radiotap_read(input: &[u8], edition: u32) -> Radiotap
 pub extern "C" fn zalghimo_radiotap_word(input: &[u8], number: usize) -> Word
     ensures { λ r. ⌜ r ≡ wordRow (wordNumber (now (input .entry)) number) ⌝ }
 {
-    boundary_radiotap::rows::word(radiotap_head::word(input, number))
+    zalghimo_radiotap::word(input, number)
 }
 
 // Reads a field of a radiotap header in an edition by its number.
@@ -159,7 +153,7 @@ pub extern "C" fn zalghimo_radiotap_word(input: &[u8], number: usize) -> Word
 pub extern "C" fn zalghimo_radiotap_field(input: &[u8], edition: u32, number: usize) -> Field
     ensures { λ r. ⌜ r ≡ fieldRow (fieldOf (readingIn ourRules edition (now (input .entry))) number) ⌝ }
 {
-    boundary_radiotap::rows::field(radiotap_field::field(input, edition, number))
+    zalghimo_radiotap::field(input, edition, number)
 }
 
 // Reads a radiotap header in an edition and puts its fields into a list of numbers, four a field.
@@ -172,7 +166,7 @@ pub extern "C" fn zalghimo_radiotap_fields(
     ensures { λ r. ⌜ r ≡ radiotapRow (summary (now (input .entry)) (readingIn ourRules edition (now (input .entry)))) ⌝ }
     ensures { λ _. ⌜ now (fields .exit) ≡ listedInto (now (fields .entry)) (readingIn ourRules edition (now (input .entry))) ⌝ }
 {
-    boundary_radiotap::rows::radiotap(radiotap_list::fields(input, edition, fields))
+    zalghimo_radiotap::fields(input, edition, fields)
 }
 
 // Writes a radiotap header with one presence word into an output at a place.
@@ -187,5 +181,5 @@ pub extern "C" fn zalghimo_radiotap_write(
     ensures { λ r. ⌜ r ≡ writtenRow (writingIn ourRules (length (now (output .entry))) place edition presence (now (values .entry))) ⌝ }
     ensures { λ _. ⌜ now (output .exit) ≡ writtenIn ourRules (now (output .entry)) place edition presence (now (values .entry)) ⌝ }
 {
-    boundary::btsnoop_rows::written(radiotap_write::write(output, place, edition, presence, values))
+    zalghimo_radiotap::write(output, place, edition, presence, values)
 }

@@ -3,7 +3,6 @@ ghost use mathlib.Core.Path.{_≡_};
 ghost use Rattle.tally_rules.specs.Tally.{updating};
 ghost use Rattle.boundary_tally.specs.Rows.{tallyOf, entryOf, doneRow, tallyAfter};
 use boundary_tally::Done;
-use tally_rules::Entry;
 
 // Adds a record to a lent tally of six numbers, or refuses and leaves the tally as found.
 #[no_mangle]
@@ -17,15 +16,5 @@ pub extern "C" fn zalghimo_btsnoop_tally(
     ensures { λ r. ⌜ r ≡ doneRow (updating (tallyOf (now (numbers .entry))) (entryOf original included flags drops)) ⌝ }
     ensures { λ _. ⌜ now (numbers .exit) ≡ tallyAfter (now (numbers .entry)) (updating (tallyOf (now (numbers .entry))) (entryOf original included flags drops)) ⌝ }
 {
-    let outcome = tally::updated(
-        boundary_tally::tally_of(*numbers),
-        Entry {
-            original,
-            included,
-            flags,
-            drops,
-        },
-    );
-    boundary_tally::put(numbers, outcome);
-    boundary_tally::row(outcome)
+    zalghimo_tally::add(numbers, original, included, flags, drops)
 }

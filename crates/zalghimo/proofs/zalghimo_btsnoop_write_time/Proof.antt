@@ -1,11 +1,11 @@
--- `zalghimo::zalghimo_btsnoop_write_time` meets its contract: the row of the answer that the function below promises.
+-- `zalghimo::zalghimo_btsnoop_write_time` meets its contract, which is that of the function it exports.
 -- Assumes nothing.
 use mir.Syntax.{w64}
 use mir.Facts.{toZ-ofZ}
-use mathlib.Core.Path.{_≡_, sym, ap, _∙_}
+use mathlib.Core.Path.{ap, _∙_}
 use borrow.Author.Needs.{needs}
 use lib.IntN.{ℤ}
-use Rattle.boundary.specs.Rows.{timeFieldRow}
+use Rattle.boundary_time.specs.Rows.{timeFieldRow}
 use Rattle.capture_time.specs.Time.{writing}
 use Rattle.zalghimo.proofs.zalghimo_btsnoop_write_time.Statement.{statement}
 use Rattle.zalghimo.proofs.zalghimo_btsnoop_write_time.Tie as tie
@@ -13,16 +13,10 @@ use Rattle.zalghimo.proofs.zalghimo_btsnoop_write_time.Tie as tie
 write-time-requires : tie.Need-write-time-requires
 write-time-requires c κs = search needs
 
-time-field-requires : tie.Need-time-field-requires
-time-field-requires c κs = search needs
-
 returns : tie.Need-returns
 returns c =
-    let seconds = toZ-ofZ {w = w64} {z = c .before .before .args .seconds} (c .before .before .fits .seconds) in
-    c .time-field .ensures
-    ∙ ap timeFieldRow (c .before .write-time .ensures)
-    ∙ ap (λ (z : ℤ). timeFieldRow (writing z (c .before .before .args .microseconds))) seconds
+    let seconds = toZ-ofZ {w = w64} {z = c .before .args .seconds} (c .before .fits .seconds) in
+    c .write-time .ensures ∙ ap (λ (z : ℤ). timeFieldRow (writing z (c .before .args .microseconds))) seconds
 
 pub zalghimo-btsnoop-write-time-spec : {M : Type 1} → statement M
-zalghimo-btsnoop-write-time-spec =
-    tie.close (tie.spec write-time-requires time-field-requires returns)
+zalghimo-btsnoop-write-time-spec = tie.close (tie.spec write-time-requires returns)

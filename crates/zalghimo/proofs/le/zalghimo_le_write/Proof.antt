@@ -1,9 +1,15 @@
--- `zalghimo::le::zalghimo_le_write` meets its contract: the row of the answer that the function below promises.
+-- `zalghimo::le::zalghimo_le_write` meets its contract, which is that of the function it exports.
 -- Assumes nothing.
-use mathlib.Core.Path.{ap, _∙_}
+use mathlib.Core.Path.{ap, ap₂, _∙_}
+use lib.IntN.{ℤ}
+use lib.ListN.{length}
+use denote.Ref.{now}
 use mir.Syntax.{w8}
 use mir.Facts.{toZ-ofZ}
-use Rattle.boundary.specs.Rows.{writtenRow}
+use Rattle.le_rules.specs.declared.Values.{Values}
+use Rattle.le_rules.specs.Writing.{writing, written}
+use Rattle.boundary_write.specs.Rows.{writtenRow}
+use Rattle.boundary_le.specs.Rows.{leValues}
 use borrow.Author.Needs.{needs}
 use Rattle.zalghimo.proofs.le.zalghimo_le_write.Statement.{statement}
 use Rattle.zalghimo.proofs.le.zalghimo_le_write.Tie as tie
@@ -11,20 +17,22 @@ use Rattle.zalghimo.proofs.le.zalghimo_le_write.Tie as tie
 write-requires : tie.Need-write-requires
 write-requires c κs = search needs
 
-written-requires : tie.Need-written-requires
-written-requires c κs = search needs
-
 same-length : tie.Need-same-length
 same-length c = search needs
 
 returns : tie.Need-returns
 returns c =
-    let start = c .before .before .before .before .before .before .before in
+    let start = c .before .before .before .before .before .before in
     let a = start .args in
-    let signal = toZ-ofZ {w = w8} {z = a .signal} (start .fits .signal) in
-    let noise = toZ-ofZ {w = w8} {z = a .noise} (start .fits .noise) in
-    let write = c .before .before .before .write .ensures in
-    (c .written .ensures ∙ ap writtenRow (rw (signal, noise) at (write .0)), rw (signal, noise) at (write .1))
+    let values =
+    ap₂
+    (λ (signal : ℤ) (noise : ℤ). leValues (a .rf-channel) signal noise (a .offences) (a .reference) (a .flags))
+    (toZ-ofZ {w = w8} {z = a .signal} (start .fits .signal))
+    (toZ-ofZ {w = w8} {z = a .noise} (start .fits .noise)) in
+    let wrote = c .before .before .write .ensures in (
+      wrote .0 ∙ ap (λ (v : Values). writtenRow (writing (length (now (a .output))) (a .place) v (now (a .packet)))) values,
+      wrote .1 ∙ ap (λ (v : Values). written (now (a .output)) (a .place) v (now (a .packet))) values,
+    )
 
 pub zalghimo-le-write-spec : {M : Type 1} → statement M
-zalghimo-le-write-spec = tie.close (tie.spec write-requires written-requires same-length returns)
+zalghimo-le-write-spec = tie.close (tie.spec write-requires same-length returns)
