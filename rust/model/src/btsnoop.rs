@@ -134,7 +134,7 @@ pub fn read_record(input: &[u8], place: usize) -> Result<Option<Record<'_>>, Ref
         return Err(Reason::IncludedAboveOriginal.at(place + 4));
     }
     let Some(packet) = behind.get(..included_length as usize) else {
-        return Err(Reason::PacketPastInput.at(place));
+        return Err(Reason::ShortPacket.at(place));
     };
     Ok(Some(Record {
         fields: Fields {
@@ -325,7 +325,7 @@ mod tests {
 
     #[test]
     fn p4_last_octet_missing() {
-        assert_eq!(check(&p3()[..43]), Err(Reason::PacketPastInput.at(16)));
+        assert_eq!(check(&p3()[..43]), Err(Reason::ShortPacket.at(16)));
     }
 
     #[test]
@@ -383,7 +383,7 @@ mod tests {
         assert_eq!(survey(&two, 16, usize::MAX), end(2, 72));
         assert_eq!(survey(&two, 72, 0), end(0, 72));
         let cut = &two[..71];
-        let refusal = Reason::PacketPastInput.at(44);
+        let refusal = Reason::ShortPacket.at(44);
         assert_eq!(survey(cut, 44, 0), more(0, 44));
         assert_eq!(survey(cut, 16, 2), Survey::Refused { count: 1, refusal });
     }

@@ -119,7 +119,7 @@ impl Values {
         } else if self.pdu_type() == RESERVED_PDU_TYPE || self.phy() == RESERVED_PHY {
             Err(Reason::LeValue.at(FLAGS_PLACE))
         } else if packet.len() < self.shortest_packet() {
-            Err(Reason::PacketPastInput.at(HEADER))
+            Err(Reason::ShortPacket.at(HEADER))
         } else {
             Ok(())
         }

@@ -9,7 +9,7 @@ pub enum Reason {
     Datalink = 4,
     ShortRecord = 5,
     IncludedAboveOriginal = 6,
-    PacketPastInput = 7,
+    ShortPacket = 7,
     LeValue = 8,
     RadiotapLength = 9,
     WordPastLength = 10,

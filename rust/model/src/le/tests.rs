@@ -79,7 +79,7 @@ fn known_values() {
 fn shortest_packets() {
     for (phy, shortest) in [(0, 4), (1, 4), (2, 5)] {
         let short = with_flags(phy << 14, shortest - 1);
-        assert_eq!(read(&short), Err(Reason::PacketPastInput.at(10)));
+        assert_eq!(read(&short), Err(Reason::ShortPacket.at(10)));
         assert!(read(&with_flags(phy << 14, shortest)).is_ok());
     }
 }
@@ -93,7 +93,7 @@ fn refusals_in_order() {
     octets[0] = 0;
     assert_eq!(read(&octets), Err(Reason::LeValue.at(8)));
     octets[8..10].fill(0);
-    assert_eq!(read(&octets), Err(Reason::PacketPastInput.at(10)));
+    assert_eq!(read(&octets), Err(Reason::ShortPacket.at(10)));
     assert_eq!(read(&[]), Err(Reason::ShortHeader.at(0)));
 }
 
@@ -122,7 +122,7 @@ fn writer_refuses() {
     for flags in [0x0380, 0xC000] {
         assert_eq!(refused(Values { flags, ..SAMPLE }, &[]), value);
     }
-    let short = Err(Reason::PacketPastInput.at(0));
+    let short = Err(Reason::ShortPacket.at(0));
     assert_eq!(refused(SAMPLE, &[0; 3]), short);
     assert_eq!(refused(SAMPLE, &[0; 4]), Err(Reason::NoRoom.at(0)));
     let coded = Values {
