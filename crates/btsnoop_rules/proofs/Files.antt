@@ -1,6 +1,6 @@
 -- Laws of whole files: which records lie whole, when a file is accepted, what the walk over it meets, and surveys.
 -- Assumes nothing.
-use Prim.Native.Nat.{ℕ, zero, suc, _+_, _-_, _≤_}
+use Prim.Native.Nat.{ℕ, _+_, _-_, _≤_}
 use mathlib.Core.Path.{_≡_, refl, sym, ap, _∙_, subst, subst₂}
 use mathlib.Core.Logic.{_↔_}
 use mathlib.Core.List.{List}
@@ -9,9 +9,9 @@ use native.Mathlib.Nat.{lt-of-not-le}
 use native.Mathlib.Decide.{decLe, ℕ-discrete}
 use lib.ListN.{length}
 use Rattle.refusals.specs.Refusals.{Answer, refused, given, shortRecord, includedLength, shortPacket, recordPlace}
-use Rattle.tiling.specs.Tiling.{Next, Placed, Ending, ended, more, broken, items, ending, used, onward, walk, Tiles, none, one}
-use Rattle.tiling.specs.Claims.{Forward, Reached}
-use Rattle.tiling.proofs.Walks.{survey-inside, count-is-passed, surveys-add, tiles-walk, never-more as never-more-walk, broken-inside}
+use Rattle.tiling.specs.Tiling.{Next, Placed, Ending, ended, more, broken, items, ending, onward, Tiles, none, one}
+use Rattle.tiling.specs.Claims.{Forward}
+use Rattle.tiling.proofs.Walks.{survey-inside, count-is-passed, surveys-add, never-more as never-more-walk, broken-inside}
 use Rattle.record_rules.proofs.Filling.{filled-walk as over-filled, walk-filled as filled-over}
 use Rattle.btsnoop_rules.specs.declared.Numbers.{Numbers}
 use Rattle.btsnoop_rules.specs.Header.{headerLength, headerAt}
@@ -108,11 +108,6 @@ forward s =
     is-end p (lying l a f) e = let z : _≡_ {A = ℕ} 0 1 = cc in absurd (omega arith)
 
 module _ (s : List ℕ) where
-  -- no record is empty
-  pub tiles-long : {p q : ℕ} {xs : List (Placed Record)} → Tiles (WholeAt s) p xs q → p + length xs ≤ q
-  tiles-long none = omega arith
-  tiles-long (one w t) = let l = tiles-long t in omega arith
-
   exact : (p : ℕ) (r : Record) (q : ℕ) → WholeAt s p r q ↔ (recordStep s p ≡ given (Next.whole r q))
   exact p r q = (whole-exactly s p r q .found, whole-exactly s p r q .lies)
 

@@ -1,22 +1,21 @@
 -- When each answer of the readers and writers is given: the orders of specs/Orders.antt, test by test.
 -- Assumes nothing.
-use Prim.Native.Nat.{ℕ, _+_, _-_, _≤_, _<_}
-use mathlib.Core.Path.{_≡_, refl, sym, ap, _∙_}
-use mathlib.Core.Bool.{Bool, true, false, not, cond, _&&_}
+use Prim.Native.Nat.{ℕ, _+_, _-_, _<_}
+use mathlib.Core.Path.{_≡_, refl, sym}
+use mathlib.Core.Bool.{Bool, true, false, _&&_}
 use mathlib.Core.Logic.{_↔_, _⊎_, inl, inr, Iff·rfl}
 use mathlib.Core.List.{List, [], _∷_}
 use native.Mathlib.Omega.{arith}
 use lib.ListN.{length}
 use lib.Dec.{leb, eqb}
-use borrow.Author.Tests.{eqb-true, eq-eqb, le-leb, leb-true}
-use Rattle.refusals.specs.Refusals.{Answer, refused, given, shortHeader, identification, version, datalink, shortRecord, includedLength, shortPacket, noRoom, recordPlace}
-use Rattle.refusals.specs.Orders.{Exactly}
+use borrow.Author.Tests.{eqb-true, eq-eqb}
+use Rattle.refusals.specs.Refusals.{Answer, refused, given, identification, version, datalink, shortRecord, includedLength, shortPacket, recordPlace}
 use Rattle.refusals.proofs.Orders.{exactly, exactly-met, neither, other-number, not-refused, leb-fails, eqb-fails}
 use Rattle.octets.specs.Numbers.{big, octetsAt, numberAt}
 use Rattle.octets.specs.Parts.{hasRoom}
 use Rattle.btsnoop_rules.specs.declared.Numbers.{Numbers}
 use Rattle.btsnoop_rules.specs.Header.{headerLength, identificationOctets, versionNumber, served, sameOctets, headerJudged, headerAt}
-use Rattle.btsnoop_rules.specs.Record.{recordLength, numbersAt, Found, end, whole, recordJudged, recordPlaced, recordAt}
+use Rattle.btsnoop_rules.specs.Record.{recordLength, numbersAt, Found, whole, recordJudged, recordPlaced, recordAt}
 use Rattle.btsnoop_rules.specs.Writing.{headerWriting, recordWriting}
 use Rattle.btsnoop_rules.specs.Orders.{HeaderJudgedExactly, HeaderReadExactly, RecordJudgedExactly, RecordReadExactly, HeaderWritingExactly, RecordWritingExactly}
 

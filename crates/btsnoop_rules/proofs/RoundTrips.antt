@@ -1,15 +1,15 @@
 -- Both round trips: a file written is read again, and an accepted file rewritten is itself.
 -- Assumes nothing.
 use Prim.Native.Nat.{ℕ, _+_, _-_, _^_, _≤_, _<_}
-use mathlib.Core.Path.{_≡_, refl, sym, ap, _∙_, subst}
-use mathlib.Core.Bool.{Bool, true, false, cond, _&&_}
-use mathlib.Core.List.{List, [], _∷_, _++_, append-assoc, append-nil}
+use mathlib.Core.Path.{_≡_, refl, sym, ap, _∙_}
+use mathlib.Core.Bool.{true, and-eq-true-iff}
+use mathlib.Core.List.{List, _++_, append-assoc, append-nil}
 use native.Mathlib.Omega.{arith}
 use lib.ListN.{length, take, drop, length-append, length-drop, take-append-drop}
 use lib.Seq.{take-at, drop-at, drop-drop, drop-length}
 use lib.Dec.{leb, eqb, lit<}
 use borrow.Author.Tests.{le-leb, leb-true, eqb-true}
-use Rattle.refusals.specs.Refusals.{Answer, refused, given}
+use Rattle.refusals.specs.Refusals.{given}
 use Rattle.refusals.proofs.Orders.{chosen}
 use Rattle.octets.specs.Numbers.{big, octetsOf, octetsAt, numberAt, Octets}
 use Rattle.octets.specs.Signed.{signed, unsigned}
@@ -18,7 +18,7 @@ use Rattle.octets.proofs.Laws.{octets-take, octets-drop}
 use Rattle.octets.proofs.PartLaws.{length-part}
 use Rattle.octets.proofs.Signs.{twos-complement}
 use Rattle.octets.proofs.Fields.{length-octetsOf, octets-front, number-back, number-read}
-use Rattle.tiling.specs.Tiling.{Placed, items}
+use Rattle.tiling.specs.Tiling.{Placed}
 use Rattle.record_rules.specs.Outputs.{valuesOf, placedFrom, lengthOf, joined, splicing}
 use Rattle.record_rules.proofs.Splices.{file-spliced}
 use Rattle.record_rules.proofs.Joining.{length-joined, length-placed, joined-read, joined-back}
@@ -26,7 +26,6 @@ use Rattle.btsnoop_rules.specs.declared.Numbers.{Numbers}
 use Rattle.btsnoop_rules.specs.Header.{headerLength, identificationOctets, versionNumber, served, sameOctets, headerJudged, headerAt}
 use Rattle.btsnoop_rules.specs.Record.{recordLength, numbersAt, Record, WholeAt}
 use Rattle.btsnoop_rules.specs.Writing.{headerOctets, headerWriting, headerWritten, recordOctets, recordWriting, recordWritten}
-use Rattle.btsnoop_rules.specs.File.{fileWalk}
 use Rattle.btsnoop_rules.specs.Claims.{Filled, Representable, writeHeader, writeRecord, recordSize, WriteThenRead, Rewritten, RewriteAccepted}
 use Rattle.btsnoop_rules.proofs.Orders.{same→eq}
 use Rattle.btsnoop_rules.proofs.HeaderLaws.{header-long}
@@ -119,10 +118,6 @@ record-back s o p r q w =
       },
     )
 
-second : (a : Bool) {b : Bool} → (a && b) ≡ true → b ≡ true
-second true e = e
-second false e = let z : _≡_ {A = ℕ} 0 1 = cc in absurd (omega arith)
-
 -- a header that is written is read
 header-read : (code : ℕ) (after : List ℕ) → served code ≡ true → headerAt (headerOctets code ++ after) ≡ given code
 unfolding headerAt headerJudged headerOctets
@@ -130,7 +125,7 @@ header-read code after h =
     let s : List ℕ = headerOctets code ++ after in
     let size : headerLength ≤ length s = rw (length-append (headerOctets code) after, length-header code) (omega arith) in
     let v = number-read s 8 4 12 refl (omega arith) big versionNumber (octetsOf big 4 code ++ after) (lit< tt) (simp append-assoc) in
-    let small : code ≤ 1004 = leb-true code 1004 (second (leb 1001 code) h) in
+    let small : code ≤ 1004 = leb-true code 1004 (and-eq-true-iff (leb 1001 code) (leb code 1004) .0 h .1) in
     let c = number-read s 12 4 16 refl size big code after (omega arith) (v .1) in
     rw (le-leb headerLength (length s) size, v .0, c .0, h)
 

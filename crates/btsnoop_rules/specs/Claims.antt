@@ -4,9 +4,9 @@ use Prim.Native.Nat.{ℕ, _+_, _^_, _≤_, _<_}
 use mathlib.Core.Path.{_≡_}
 use mathlib.Core.Bool.{true}
 use mathlib.Core.List.{List, [], _∷_}
-use lib.ListN.{length, take, drop}
+use lib.ListN.{length}
 use lib.Signed.{mag}
-use Rattle.refusals.specs.Refusals.{Answer, refused, given, recordPlace}
+use Rattle.refusals.specs.Refusals.{refused, given, recordPlace}
 use Rattle.octets.specs.Numbers.{Octets}
 use Rattle.octets.specs.Parts.{part}
 use Rattle.tiling.specs.Tiling.{Next, Placed, ended, broken, walk, items, ending, Tiles}

@@ -1,13 +1,13 @@
 -- What a survey has found so far, and how each answer of the record reader carries it on.
 -- Assumes nothing.
-use Prim.Native.Nat.{ℕ, zero, suc, _+_, _-_, _≤_, _<_}
+use Prim.Native.Nat.{ℕ, suc, _+_, _-_, _≤_, _<_}
 use mathlib.Core.Path.{_≡_, refl, sym, ap, _∙_}
 use mathlib.Core.List.{List}
 use native.Mathlib.Omega.{arith}
 use native.Mathlib.Nat.{add-zero, zero-add, add-suc}
 use lib.ListN.{length}
 use Rattle.refusals.specs.Refusals.{Answer, refused, given, recordPlace}
-use Rattle.tiling.specs.Tiling.{Next, Walk, stop, Ending, ended, more, broken, items, ending, used, onward, walk, Survey, surveyOf}
+use Rattle.tiling.specs.Tiling.{Next, Walk, stop, ended, more, broken, items, ending, used, onward, walk, Survey, surveyOf}
 use Rattle.tiling.proofs.Walks.{survey-inside, survey-below, survey-past}
 use Rattle.btsnoop_rules.specs.declared.Numbers.{Numbers}
 use Rattle.btsnoop_rules.specs.Header.{headerLength, headerAt}

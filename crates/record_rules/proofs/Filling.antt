@@ -1,11 +1,10 @@
 -- The walk over a whole file, over any step that goes forward.
 -- Assumes nothing.
-use Prim.Native.Nat.{ℕ, _+_, _≤_}
+use Prim.Native.Nat.{ℕ, _≤_}
 use mathlib.Core.Path.{_≡_, subst}
 use mathlib.Core.Logic.{_↔_}
 use mathlib.Core.List.{List}
 use native.Mathlib.Omega.{arith}
-use lib.ListN.{length}
 use Rattle.refusals.specs.Refusals.{Answer, given}
 use Rattle.tiling.specs.Tiling.{Next, Placed, ended, items, ending, walk, Tiles}
 use Rattle.tiling.specs.Claims.{Forward, Reached}

@@ -5,10 +5,9 @@ use mathlib.Core.Path.{_≡_, refl, ap, _∙_}
 use mathlib.Core.List.{List, [], _∷_, _++_, append-assoc, append-nil}
 use native.Mathlib.Omega.{arith}
 use lib.ListN.{length, length-append}
-use Rattle.refusals.specs.Refusals.{given}
 use Rattle.octets.specs.Parts.{part, splice}
 use Rattle.octets.proofs.PartLaws.{length-splice, splice-before, splice-behind, part-splice, splice-splice}
-use Rattle.record_rules.specs.Outputs.{All, Output, writeNext, writeAll, joined, splicing, WrittenAt}
+use Rattle.record_rules.specs.Outputs.{All, Output, writeAll, joined, splicing, WrittenAt}
 
 -- a splice is a write of the octets, every other octet as it was
 pub splicing-written : (out : List ℕ) (at : ℕ) (xs : List ℕ) → at + length xs ≤ length out

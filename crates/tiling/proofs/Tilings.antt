@@ -1,12 +1,12 @@
 -- Laws of items that lie end to end.
 -- Assumes nothing.
 use Prim.Native.Nat.{ℕ, zero, suc, _+_, _-_, _≤_, _<_}
-use mathlib.Core.Path.{_≡_, refl, sym, ap, _∙_}
-use mathlib.Core.List.{List, [], _∷_, _++_}
+use mathlib.Core.Path.{_≡_, refl}
+use mathlib.Core.List.{List}
 use native.Mathlib.Omega.{arith}
 use lib.ListN.{length}
 use Rattle.refusals.specs.Refusals.{Answer, refused, given}
-use Rattle.tiling.specs.Tiling.{Next, Placed, ended, broken, stop, pass, ending, used, onward, walk, Tiles, none, one}
+use Rattle.tiling.specs.Tiling.{Next, Placed, ended, ending, used, onward, walk, Tiles, none, one}
 
 -- items that lie end to end do so for any other meaning of lying whole that follows
 pub tiles-map : {A : Type 0} {L M : ℕ → A → ℕ → Type 0} → ((p : ℕ) (a : A) (q : ℕ) → L p a q → M p a q)

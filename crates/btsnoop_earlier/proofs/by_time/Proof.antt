@@ -2,11 +2,11 @@
 -- Assumes nothing.
 use mathlib.Core.Path.{_≡_, sym, ap, _∙_}
 use mathlib.Core.Bool.{Bool, cond}
-use lib.IntN.{ℤ}
 use lib.Signed.{leZ}
 use mir.Syntax.{w64}
 use mir.Facts.{toZ-ofZ}
 use Rattle.btsnoop_earlier.specs.Earlier.{packetOf}
+use Rattle.btsnoop_earlier.proofs.EarlierLaws.{order-of}
 use borrow.Author.Needs.{needs}
 use Rattle.btsnoop_earlier.proofs.by_time.Statement.{statement}
 use Rattle.btsnoop_earlier.proofs.by_time.Tie as tie
@@ -17,7 +17,7 @@ compared c =
     let a = c .before .before .before .args in
     let first = toZ-ofZ {w = w64} {z = a .first .time} (record { sfits = c .before .before .struct-told .given .1 .1 .1 .1 .0 .1 }) in
     let second = toZ-ofZ {w = w64} {z = a .second .time} (record { sfits = c .before .struct-told2 .given .1 .1 .1 .1 .0 .1 }) in
-    c .not-later .ensures ∙ cc (first, second)
+    c .not-later .ensures ∙ order-of first second
 
 not-later-requires : tie.Need-not-later-requires
 not-later-requires c κs = search needs

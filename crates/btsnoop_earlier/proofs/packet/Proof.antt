@@ -1,6 +1,6 @@
 -- `btsnoop_earlier::packet` meets its contract: each arm is the case of `partIn` that the answer is.
 -- Assumes nothing.
-use mathlib.Core.Path.{_≡_, sym, ap, _∙_}
+use mathlib.Core.Path.{sym, ap, _∙_}
 use denote.Ref.{now}
 use Rattle.btsnoop_earlier.specs.Earlier.{partIn, earlierPart}
 use Rattle.btsnoop_earlier.specs.Says.{earlierSays}

@@ -1,7 +1,12 @@
 -- `btsnoop_record::numbers` meets its contract: each number by the promise of its reader.
 -- Assumes nothing.
+use Prim.Native.Nat.{ℕ}
+use mathlib.Core.Path.{_≡_, ap, _∙_}
+use lib.IntN.{ℤ}
 use mir.Syntax.{w64}
 use mir.Facts.{toZ-ofZ}
+use Rattle.octets.specs.Signed.{signed}
+use Rattle.btsnoop_rules.specs.declared.Numbers.{Numbers}
 use Rattle.btsnoop_rules.specs.Record.{numbersAt}
 use borrow.Author.Needs.{needs}
 use Rattle.btsnoop_record.proofs.numbers.Statement.{statement}
@@ -37,9 +42,19 @@ be64-requires c κs = search needs
 signed64-requires : tie.Need-signed64-requires
 signed64-requires c κs = search needs
 
+-- numbers are the same where each of them is
+same : {o o′ i i′ f f′ d d′ : ℕ} {t t′ : ℤ} → o ≡ o′ → i ≡ i′ → f ≡ f′ → d ≡ d′ → t ≡ t′
+    → _≡_ {A = Numbers} (record { original = o; included = i; flags = f; drops = d; time = t })
+    (record { original = o′; included = i′; flags = f′; drops = d′; time = t′ })
+same a b c d e = cc
+
 returns : tie.Need-returns
 unfolding numbersAt
-returns c = cc (toZ-ofZ {w = w64} {z = c .signed64 .result} (record { sfits = c .signed64 .ok }))
+returns c =
+    let bits = toZ-ofZ {w = w64} {z = c .signed64 .result} (record { sfits = c .signed64 .ok }) in
+    same (c .before .before .before .before .before .be32 .ensures) (c .before .before .before .before .be322 .ensures)
+    (c .before .before .before .be323 .ensures) (c .before .before .be324 .ensures)
+    (bits ∙ c .signed64 .ensures ∙ ap (signed 64) (c .before .be64 .ensures))
 
 pub numbers-spec : {M : Type 1} → statement M
 numbers-spec =
