@@ -1,23 +1,23 @@
 -- Laws of whole files: which records lie whole, when a file is accepted, what the walk over it meets, and surveys.
 -- Assumes nothing.
-use Prim.Native.Nat.{ℕ, _+_, _-_, _≤_}
+use Prim.Native.Nat.{ℕ, _+_, _-_, _≤_, _<_}
 use mathlib.Core.Path.{_≡_, refl, sym, ap, _∙_, subst, subst₂}
-use mathlib.Core.Logic.{_↔_}
+use mathlib.Core.Logic.{_↔_, _⊎_, inl, inr}
 use mathlib.Core.List.{List}
 use native.Mathlib.Omega.{arith}
 use native.Mathlib.Nat.{lt-of-not-le}
 use native.Mathlib.Decide.{decLe, ℕ-discrete}
 use lib.ListN.{length}
 use Rattle.refusals.specs.Refusals.{Answer, refused, given, shortRecord, includedLength, shortPacket, recordPlace}
-use Rattle.tiling.specs.Tiling.{Next, Placed, Ending, ended, more, broken, items, ending, onward, Tiles, none, one}
-use Rattle.tiling.specs.Claims.{Forward}
-use Rattle.tiling.proofs.Walks.{survey-inside, count-is-passed, surveys-add, never-more as never-more-walk, broken-inside}
+use Rattle.tiling.specs.Tiling.{Next, Placed, Ending, ended, more, broken, items, ending, onward, walk, Survey, survey, Tiles, none, one}
+use Rattle.tiling.specs.Claims.{Forward, SurveyFrom}
+use Rattle.tiling.proofs.Walks.{survey-from, count-is-passed, surveys-add, never-more as never-more-walk, broken-inside}
 use Rattle.record_rules.proofs.Filling.{filled-walk as over-filled, walk-filled as filled-over}
 use Rattle.btsnoop_rules.specs.declared.Numbers.{Numbers}
 use Rattle.btsnoop_rules.specs.Header.{headerLength, headerAt}
 use Rattle.btsnoop_rules.specs.Record.{recordLength, numbersAt, Found, end, whole, recordJudged, recordAt, packetIn, packetAt, Record, stepOn, recordStep, WholeAt}
 use Rattle.btsnoop_rules.specs.File.{surveyAt, fileWalk, File, fileOf, behind, fileAt}
-use Rattle.btsnoop_rules.specs.Claims.{FoundExactly, WholeExactly, Filled, AcceptedFile, AcceptedExactly, Meets, atEnd, onRecord, WalkMeets, SurveysInTurn, SurveyCountsPassed, NeverMore, WalkNeverMore, WalkNever17, CheckNever17}
+use Rattle.btsnoop_rules.specs.Claims.{FoundExactly, WholeExactly, Filled, AcceptedFile, AcceptedExactly, Meets, atEnd, onRecord, WalkMeets, SurveysInTurn, SurveyCountsPassed, NeverMore, WalkNeverMore, WalkNever17, CheckNever17, SurveyPlaceExactly}
 use Rattle.btsnoop_rules.proofs.Orders.{header-never-17}
 use Rattle.btsnoop_rules.proofs.HeaderLaws.{header-long}
 use Rattle.btsnoop_rules.proofs.RecordLaws.{record-below, record-past, record-end, record-short, record-judged, judged-above, judged-past, judged-whole}
@@ -171,7 +171,7 @@ pub survey-counts-passed : SurveyCountsPassed
 unfolding surveyAt
 survey-counts-passed s p n l h =
     record {
-      answer = survey-inside headerLength (length s) (recordStep s) n p l h;
+      answer = survey-from headerLength (length s) (recordStep s) n p .inside l h;
       reached = count-is-passed headerLength (length s) (recordStep s) n p;
     }
 
@@ -179,7 +179,7 @@ survey-counts-passed s p n l h =
 pub never-more : NeverMore
 unfolding surveyAt
 never-more s p l h =
-    rw (survey-inside headerLength (length s) (recordStep s) (length s) p l h)
+    rw (survey-from headerLength (length s) (recordStep s) (length s) p .inside l h)
     (never-more-walk headerLength (length s) (recordStep s) (forward s) (length s) p l h (omega arith))
 
 -- nor does the walk behind a valid header
@@ -189,17 +189,22 @@ walk-never-more s code h =
     let long : headerLength ≤ length s = header-long s code h in
     never-more-walk headerLength (length s) (recordStep s) (forward s) (length s) headerLength (omega arith) long (omega arith)
 
--- and it never gives 17, since every place that it comes to lies behind the header and inside the input
-pub walk-never-17 : WalkNever17
-unfolding fileWalk
-walk-never-17 s code q h e =
-    let b = broken-inside headerLength (length s) (recordStep s) (forward s) (length s) headerLength (omega arith) (header-long s code h) recordPlace q e in
+-- no walk from a place where a record may start gives 17, since every place that it comes to is such a place
+inside-never-17 : (s : List ℕ) (n p q : ℕ) → headerLength ≤ p → p ≤ length s
+    → ending (walk (recordStep s) n p) ≡ broken recordPlace q → ⊥
+inside-never-17 s n p q l h e =
+    let b = broken-inside headerLength (length s) (recordStep s) (forward s) n p l h recordPlace q e in
     never (b .0) (b .1) (b .2) (seen s (b .0)) (b .3)
   where
     never : (p : ℕ) → headerLength ≤ p → p ≤ length s → {x : Answer Found} → Seen s p x → stepOn s x ≡ refused recordPlace q → ⊥
     never p l i (refusal f) e = f l i (cc)
     never p l i (last f) e = let z : _≡_ {A = ℕ} 0 1 = cc in omega arith
     never p l i (lying f a k) e = let z : _≡_ {A = ℕ} 0 1 = cc in omega arith
+
+-- so the walk behind a valid header never does
+pub walk-never-17 : WalkNever17
+unfolding fileWalk
+walk-never-17 s code q h = inside-never-17 s (length s) headerLength q (omega arith) (header-long s code h)
 
 -- nor does the check of a file
 pub check-never-17 : CheckNever17
@@ -215,3 +220,18 @@ check-never-17 s q = under (headerAt s) refl
     under : (x : Answer ℕ) → headerAt s ≡ x → behind s x ≡ refused recordPlace q → ⊥
     under (refused n r) h g = header-never-17 s q (cc)
     under (given code) h g = over code h (ending (fileWalk s)) refl g
+
+-- and a survey gives it exactly when no record may start at its place
+pub survey-place-exactly : SurveyPlaceExactly
+unfolding surveyAt
+survey-place-exactly s p n = (found (decLe headerLength p) (decLe p (length s)), at-place .outside)
+  where
+    at-place : SurveyFrom headerLength (length s) (recordStep s) n p
+    at-place = survey-from headerLength (length s) (recordStep s) n p
+
+    found : Dec (headerLength ≤ p) → Dec (p ≤ length s)
+        → survey headerLength (length s) (recordStep s) n p ≡ record { count = 0; ending = broken recordPlace p }
+        → (p < headerLength) ⊎ (length s < p)
+    found (no l) h e = inl (lt-of-not-le l)
+    found (yes l) (no h) e = inr (lt-of-not-le h)
+    found (yes l) (yes h) e = absurd (inside-never-17 s n p p l h (ap (λ (v : Survey). v .ending) (sym (at-place .inside l h) ∙ e)))

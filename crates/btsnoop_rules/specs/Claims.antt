@@ -3,6 +3,7 @@
 use Prim.Native.Nat.{ℕ, _+_, _^_, _≤_, _<_}
 use mathlib.Core.Path.{_≡_}
 use mathlib.Core.Bool.{true}
+use mathlib.Core.Logic.{_↔_, _⊎_}
 use mathlib.Core.List.{List, [], _∷_}
 use lib.ListN.{length}
 use lib.Signed.{mag}
@@ -122,6 +123,11 @@ RewriteAccepted = (s out : List ℕ) (at : ℕ) (file : File) → Octets s → f
 abbrev pub SurveysInTurn : Type 0
 SurveysInTurn = (s : List ℕ) (n : ℕ) (ms : List ℕ) (p : ℕ)
     → inTurn headerLength (length s) (recordStep s) n ms p ≡ surveyAt s p (sum n ms)
+
+-- a survey gives 17, at its place and with no record counted, exactly when no record may start there
+abbrev pub SurveyPlaceExactly : Type 0
+SurveyPlaceExactly = (s : List ℕ) (p n : ℕ)
+    → (surveyAt s p n ≡ record { count = 0; ending = broken recordPlace p }) ↔ ((p < headerLength) ⊎ (length s < p))
 
 -- a survey's count is the number of records between its start and the place that it reached
 pub record SurveyCounts (s : List ℕ) (p n : ℕ) : Type 0 where

@@ -2,13 +2,14 @@
 -- Assumes nothing.
 use Prim.Native.Nat.{ℕ, suc, _+_, _-_, _≤_, _<_}
 use mathlib.Core.Path.{_≡_, refl, sym, ap, _∙_}
+use mathlib.Core.Logic.{inl, inr}
 use mathlib.Core.List.{List}
 use native.Mathlib.Omega.{arith}
 use native.Mathlib.Nat.{add-zero, zero-add, add-suc}
 use lib.ListN.{length}
 use Rattle.refusals.specs.Refusals.{Answer, refused, given, recordPlace}
 use Rattle.tiling.specs.Tiling.{Next, Walk, stop, ended, more, broken, items, ending, used, onward, walk, Survey, surveyOf}
-use Rattle.tiling.proofs.Walks.{survey-inside, survey-below, survey-past}
+use Rattle.tiling.proofs.Walks.{survey-from}
 use Rattle.btsnoop_rules.specs.declared.Numbers.{Numbers}
 use Rattle.btsnoop_rules.specs.Header.{headerLength, headerAt}
 use Rattle.btsnoop_rules.specs.Record.{Found, end, whole, Record, recordAt, stepOn, recordStep}
@@ -30,11 +31,11 @@ pub record SoFar (s : List ℕ) (place number reached count : ℕ) : Type 0 wher
 module _ (s : List ℕ) (place number : ℕ) where
   pub below : place < headerLength → surveyAt s place number ≡ record { count = 0; ending = broken recordPlace place }
   unfolding surveyAt
-  below h = survey-below headerLength (length s) (recordStep s) number place h
+  below h = survey-from headerLength (length s) (recordStep s) number place .outside (inl h)
 
   pub past : headerLength ≤ place → length s < place → surveyAt s place number ≡ record { count = 0; ending = broken recordPlace place }
   unfolding surveyAt
-  past l h = survey-past headerLength (length s) (recordStep s) number place l h
+  past l h = survey-from headerLength (length s) (recordStep s) number place .outside (inr h)
 
   pub start : headerLength ≤ place → place ≤ length s → SoFar s place number place 0
   unfolding surveyAt
@@ -44,7 +45,7 @@ module _ (s : List ℕ) (place number : ℕ) where
         high = h;
         few = omega arith;
         answer =
-            survey-inside headerLength (length s) (recordStep s) number place l h
+            survey-from headerLength (length s) (recordStep s) number place .inside l h
             ∙ sym
             (ap (λ (k : ℕ). counted 0 (surveyOf (walk (recordStep s) k place))) all
             ∙ ap (λ (k : ℕ). record { count = k; ending = ending (walk (recordStep s) number place) }) (zero-add (length (items (walk (recordStep s) number place)))));
@@ -120,5 +121,5 @@ pub surveyed : (s : List ℕ) (code : ℕ) → headerAt s ≡ given code
     → fileAt s ≡ fileOf code (surveyAt s headerLength (length s) .count) (surveyAt s headerLength (length s) .ending)
 unfolding fileAt fileWalk surveyAt
 surveyed s code e =
-    let here = survey-inside headerLength (length s) (recordStep s) (length s) headerLength (omega arith) (header-long s code e) in
+    let here = survey-from headerLength (length s) (recordStep s) (length s) headerLength .inside (omega arith) (header-long s code e) in
     ap (behind s) e ∙ ap (λ (v : Survey). fileOf code (v .count) (v .ending)) (sym here)

@@ -2,15 +2,18 @@
 -- Assumes nothing.
 use Prim.Native.Nat.{ℕ, zero, suc, _+_, _-_, _≤_, _<_}
 use mathlib.Core.Path.{_≡_, refl, sym, ap, _∙_}
+use mathlib.Core.Bool.{cond, _&&_, and-false}
+use mathlib.Core.Logic.{_⊎_, inl, inr}
 use mathlib.Core.List.{List, [], _∷_}
 use native.Mathlib.Omega.{arith}
 use native.Mathlib.Nat.{zero-add, suc-add, lt-of-not-le}
 use lib.ListN.{length}
+use lib.Dec.{leb}
 use borrow.Author.Tests.{le-leb, lt-leb}
 use native.Mathlib.Decide.{decLe}
 use Rattle.refusals.specs.Refusals.{Answer, refused, given, recordPlace}
 use Rattle.tiling.specs.Tiling.{Next, end, whole, Placed, Ending, ended, more, broken, stop, items, ending, used, onward, walk, Survey, surveyOf, survey, Tiles, none, one}
-use Rattle.tiling.specs.Claims.{Forward, Found, EndsAt, Reached, Final, then, inTurn, sum, CountIsPassed, NeverMore, SurveysAdd, TilesWalk}
+use Rattle.tiling.specs.Claims.{Forward, Found, EndsAt, Reached, Final, then, inTurn, sum, SurveyFromAnyPlace, CountIsPassed, NeverMore, SurveysAdd, TilesWalk}
 
 -- an ending names a place that was reached
 abbrev Names : Ending → ℕ → Type 0
@@ -36,18 +39,16 @@ then-cong c f g (more q) h = ap (λ (s : Survey). record { count = c + s .count;
 then-cong c f g (broken n q) h = refl
 
 module _ {A : Type 0} (low high : ℕ) (step : ℕ → Answer (Next A)) where
-  -- from a place where items lie, a survey is that of the walk; from another it is refused
-  pub survey-inside : (n p : ℕ) → low ≤ p → p ≤ high → survey low high step n p ≡ surveyOf (walk step n p)
+  -- a survey is refused from a place where no item can start, and that of the walk from any other
+  pub survey-from : SurveyFromAnyPlace low high step
   unfolding survey
-  survey-inside n p l h = rw (le-leb low p l, le-leb p high h)
-
-  pub survey-below : (n p : ℕ) → p < low → survey low high step n p ≡ record { count = 0; ending = broken recordPlace p }
-  unfolding survey
-  survey-below n p l = rw (lt-leb low p l)
-
-  pub survey-past : (n p : ℕ) → low ≤ p → high < p → survey low high step n p ≡ record { count = 0; ending = broken recordPlace p }
-  unfolding survey
-  survey-past n p l h = rw (le-leb low p l, lt-leb p high h)
+  survey-from n p = record { outside = outside; inside = λ l h. rw (le-leb low p l, le-leb p high h) }
+    where
+      outside : (p < low) ⊎ (high < p)
+          → cond (leb low p && leb p high) (surveyOf (walk step n p)) (record { count = 0; ending = broken recordPlace p })
+          ≡ record { count = 0; ending = broken recordPlace p }
+      outside (inl l) = rw (lt-leb low p l)
+      outside (inr h) = rw (lt-leb p high h, and-false (leb low p))
 
   -- the count is the number of items between the start and the place reached
   pub count-is-passed : CountIsPassed low high step
@@ -158,12 +159,14 @@ module _ {A : Type 0} (low high : ℕ) (step : ℕ → Answer (Next A)) where
             → then (survey low high step n p .count) next (survey low high step n p .ending) ≡ survey low high step (n + N) p
         go rest (yes l) (yes h) =
             let inside : (q : ℕ) → Names (ending (walk step n p)) q → next q ≡ surveyOf (walk step N q) =
-            λ q named. let i = reached-inside n p l h q named in rest q ∙ survey-inside N q (i .0) (i .1) in
-            rw (survey-inside n p l h, survey-inside (n + N) p l h)
+            λ q named. let i = reached-inside n p l h q named in rest q ∙ survey-from N q .inside (i .0) (i .1) in
+            rw (survey-from n p .inside l h, survey-from (n + N) p .inside l h)
             (then-cong (length (items (walk step n p))) next (λ (q : ℕ). surveyOf (walk step N q)) (ending (walk step n p)) inside
             ∙ sym (walk-add n N p))
-        go rest (yes l) (no h) = rw (survey-past n p l (lt-of-not-le h), survey-past (n + N) p l (lt-of-not-le h))
-        go rest (no l) h = rw (survey-below n p (lt-of-not-le l), survey-below (n + N) p (lt-of-not-le l))
+        go rest (yes l) (no h) =
+            rw (survey-from n p .outside (inr (lt-of-not-le h)), survey-from (n + N) p .outside (inr (lt-of-not-le h)))
+        go rest (no l) h =
+            rw (survey-from n p .outside (inl (lt-of-not-le l)), survey-from (n + N) p .outside (inl (lt-of-not-le l)))
 
   -- a walk allowed as many items as there are octets left never says "more"
   pub never-more : NeverMore low high step

@@ -1,9 +1,10 @@
 -- What holds of walks and surveys over any step that goes forward. Proofs: proofs/Walks.antt.
 use Prim.Native.Nat.{ℕ, _+_, _-_, _≤_, _<_}
 use mathlib.Core.Path.{_≡_}
+use mathlib.Core.Logic.{_⊎_}
 use mathlib.Core.List.{List, [], _∷_}
 use lib.ListN.{length}
-use Rattle.refusals.specs.Refusals.{Answer, refused, given}
+use Rattle.refusals.specs.Refusals.{Answer, refused, given, recordPlace}
 use Rattle.tiling.specs.Tiling.{Next, end, whole, Placed, Ending, ended, more, broken, Walk, items, ending, walk, Survey, survey, Tiles}
 
 -- a step that goes forward: items lie at places from `low` on, each ends after it starts and inside the input, and the
@@ -53,7 +54,17 @@ abbrev pub sum : ℕ → List ℕ → ℕ
 sum n [] = n
 sum n (m ∷ ms) = n + sum m ms
 
+-- a survey from a place where no item can start is refused with 17 at that place and counts nothing; from any other it
+-- counts the items that the walk passes, and ends as the walk does
+pub record SurveyFrom {A : Type 0} (low high : ℕ) (step : ℕ → Answer (Next A)) (n p : ℕ) : Type 0 where
+  pub outside : (p < low) ⊎ (high < p) → survey low high step n p ≡ record { count = 0; ending = broken recordPlace p }
+  pub inside : low ≤ p → p ≤ high
+      → survey low high step n p ≡ record { count = length (items (walk step n p)); ending = ending (walk step n p) }
+
 module _ {A : Type 0} (low high : ℕ) (step : ℕ → Answer (Next A)) where
+  abbrev pub SurveyFromAnyPlace : Type 0
+  SurveyFromAnyPlace = (n p : ℕ) → SurveyFrom low high step n p
+
   -- the count is the number of items between the start and the place reached
   abbrev pub CountIsPassed : Type 0
   CountIsPassed = (n p : ℕ) → Reached step p (walk step n p)
