@@ -1,14 +1,14 @@
 -- Each refusal of reading, before the first field, and of writing is given exactly when its condition holds: test by test
 -- in their order, each answer is shown with its condition, and each condition gives its answer.
 -- Assumes nothing.
-use Prim.Native.Nat.{ℕ, _≤_}
+use Prim.Native.Nat.{ℕ, _≤_, _<_}
 use mathlib.Core.Path.{_≡_, refl, sym, ap, _∙_, subst, subst₂}
-use mathlib.Core.Bool.{Bool, true, false, cond, _&&_, and-false}
+use mathlib.Core.Bool.{Bool, true, false, cond, _&&_, and-eq-true-iff, and-false}
 use mathlib.Core.Logic.{_⊎_, inl, inr}
 use mathlib.Core.List.{List}
 use native.Mathlib.Omega.{arith}
 use lib.ListN.{length, getD}
-use lib.Dec.{leb, ltb, eqb}
+use lib.Dec.{leb}
 use borrow.Author.Tests.{leb-true, leb-false, ltb-true, ltb-false, eqb-true, eqb-false, le-leb, lt-leb, lt-ltb, le-ltb, ne-eqb}
 use Rattle.refusals.specs.Refusals.{Answer, refused, given}
 use Rattle.radiotap_rules.specs.Rules.{Rules, editionTaken, served}
@@ -18,36 +18,52 @@ use Rattle.radiotap_rules.specs.Orders.{FixedHeader, FixedRefused, tooSh
 use Rattle.radiotap_rules.proofs.Walks.{served-reads, unserved-refused}
 use Rattle.radiotap_rules.proofs.Words.{words-exactly}
 
+-- an answer with its condition: a refusal's by number and place, a value's by the value
+pub data Told {A : Type 0} (R : ℕ → ℕ → Type 0) (G : A → Type 0) : Answer A → Type 0 where
+  toldRefused : {number place : ℕ} → R number place → Told R G (refused number place)
+  toldGiven : {a : A} → G a → Told R G (given a)
+
+pub of-refused : {A : Type 0} {R : ℕ → ℕ → Type 0} {G : A → Type 0} {number place : ℕ} → Told R G (refused number place) → R number place
+of-refused (toldRefused h) = h
+
+pub of-given : {A : Type 0} {R : ℕ → ℕ → Type 0} {G : A → Type 0} {a : A} → Told R G (given a) → G a
+of-given (toldGiven h) = h
+
+-- what is chosen by a test, either way
+pub either : {A : Type 0} (P : A → Type 0) (t : Bool) (x y : A) → (t ≡ true → P x) → (t ≡ false → P y) → P (cond t x y)
+either P true x y passed failed = passed refl
+either P false x y passed failed = failed refl
+
+-- one of two tests that do not both pass
+one-fails : (a b : Bool) → (a && b) ≡ false → (a ≡ false) ⊎ (b ≡ false)
+one-fails true b e = inr e
+one-fails false b e = inl refl
+
 -- an answer of the fixed header, with its condition
 abbrev FixedTold : List ℕ → Answer ℕ → Type 0
-FixedTold s (refused number place) = FixedRefused s number place
-FixedTold s (given size) = FixedHeader s size
+FixedTold s = Told (FixedRefused s) (FixedHeader s)
 
 fixed-told : (s : List ℕ) → FixedTold s (fixedHeader s)
 unfolding fixedHeader
-fixed-told s = on-length (ltb (length s) fixedLength) refl
+fixed-told s =
+    either (FixedTold s) _ _ _ (λ short. toldRefused (tooShort (ltb-true _ _ short)))
+    (λ long.
+    either (FixedTold s) _ _ _
+    (λ version. either (FixedTold s) _ _ _ (inside (eqb-true _ _ version)) (outside (ltb-false _ _ long) (eqb-true _ _ version)))
+    (λ other. toldRefused (otherVersion (ltb-false _ _ long) (eqb-false _ _ other))))
   where
-    on-size : 8 ≤ length s → getD s 0 0 ≡ 0 → (a b : Bool) → leb fixedLength (lengthIn s) ≡ a → leb (lengthIn s) (length s) ≡ b
-        → FixedTold s (cond (a && b) (given (lengthIn s)) (refused 9 2))
-    on-size long version true true low high =
-        record { version = version; told = refl; least = leb-true _ _ low; inside = leb-true _ _ high }
-    on-size long version false b low high = wrongLength long version (inl (leb-false _ _ low))
-    on-size long version true false low high = wrongLength long version (inr (leb-false _ _ high))
+    inside : getD s 0 0 ≡ 0 → (leb fixedLength (lengthIn s) && leb (lengthIn s) (length s)) ≡ true → FixedTold s (given (lengthIn s))
+    inside version e =
+        let both = and-eq-true-iff (leb fixedLength (lengthIn s)) (leb (lengthIn s) (length s)) .0 e in
+        toldGiven (record { version = version; told = refl; least = leb-true _ _ (both .0); inside = leb-true _ _ (both .1) })
 
-    on-version : 8 ≤ length s → (t : Bool) → eqb (getD s 0 0) 0 ≡ t
-        → FixedTold s
-        (cond t (cond (leb fixedLength (lengthIn s) && leb (lengthIn s) (length s)) (given (lengthIn s)) (refused 9 2)) (refused 3 0))
-    on-version long true e = on-size long (eqb-true _ _ e) (leb fixedLength (lengthIn s)) (leb (lengthIn s) (length s)) refl refl
-    on-version long false e = otherVersion long (eqb-false _ _ e)
-
-    on-length : (t : Bool) → ltb (length s) fixedLength ≡ t
-        → FixedTold s
-        (cond t (refused 1 (length s))
-        (cond (eqb (getD s 0 0) 0)
-        (cond (leb fixedLength (lengthIn s) && leb (lengthIn s) (length s)) (given (lengthIn s)) (refused 9 2))
-        (refused 3 0)))
-    on-length true e = tooShort (ltb-true _ _ e)
-    on-length false e = on-version (ltb-false _ _ e) (eqb (getD s 0 0) 0) refl
+    outside : 8 ≤ length s → getD s 0 0 ≡ 0 → (leb fixedLength (lengthIn s) && leb (lengthIn s) (length s)) ≡ false
+        → FixedTold s (refused 9 2)
+    outside long version e = toldRefused (wrongLength long version (go (one-fails _ _ e)))
+      where
+        go : (leb fixedLength (lengthIn s) ≡ false) ⊎ (leb (lengthIn s) (length s) ≡ false) → (lengthIn s < 8) ⊎ (length s < lengthIn s)
+        go (inl low) = inl (leb-false _ _ low)
+        go (inr high) = inr (leb-false _ _ high)
 
 -- and each condition gives its answer
 fixed-accepted : (s : List ℕ) (size : ℕ) → FixedHeader s size → fixedHeader s ≡ given size
@@ -73,8 +89,8 @@ fixed-refused s (wrongLength long version (inr l)) =
 pub fixed-exactly : FixedExactly
 fixed-exactly s =
     record {
-      accepted = λ size. (λ e. subst (FixedTold s) e (fixed-told s), fixed-accepted s size);
-      refuses = λ number place. (λ e. subst (FixedTold s) e (fixed-told s), fixed-refused s);
+      accepted = λ size. (λ e. of-given (subst (FixedTold s) e (fixed-told s)), fixed-accepted s size);
+      refuses = λ number place. (λ e. of-refused (subst (FixedTold s) e (fixed-told s)), fixed-refused s);
     }
 
 module _ (rules : Rules) (edition : ℕ) (s : List ℕ) where
@@ -116,8 +132,8 @@ module _ (rules : Rules) (edition : ℕ) (s : List ℕ) where
       on-words l size h (given ws) e = on-walk size (fieldsOf rules taken s size ws)
 
       on-fixed : edition ≤ rules .newest → (x : Answer ℕ) → FixedTold s x → ReadTold (readFixed rules taken s x)
-      on-fixed l (refused number place) h = atFixedHeader l h
-      on-fixed l (given size) h = on-words l size h (presenceWords s size) refl
+      on-fixed l (refused number place) (toldRefused h) = atFixedHeader l h
+      on-fixed l (given size) (toldGiven h) = on-words l size h (presenceWords s size) refl
 
       on-edition : (t : Bool) → served rules edition ≡ t → ReadTold (reading rules edition s)
       on-edition true e =

@@ -2,7 +2,6 @@
 -- Assumes nothing.
 use Prim.Native.Nat.{ℕ, zero, suc, _+_, _≤_}
 use mathlib.Core.Path.{_≡_, refl, sym, _∙_, subst}
-use mathlib.Core.Bool.{Bool, true, false, cond}
 use mathlib.Core.List.{List, [], _∷_}
 use native.Mathlib.Omega.{arith}
 use lib.ListN.{length}
@@ -14,12 +13,8 @@ use Rattle.radiotap_rules.specs.Reading.{fixedHeader, bitAt, rowNumber, 
 use Rattle.radiotap_rules.specs.Fields.{Lies, AllLie, Inside, FieldsInside}
 use Rattle.radiotap_rules.specs.Orders.{FixedHeader}
 use Rattle.radiotap_rules.proofs.Meanings.{number-bit}
-use Rattle.radiotap_rules.proofs.Orders.{fixed-exactly}
+use Rattle.radiotap_rules.proofs.Orders.{either, fixed-exactly}
 use Rattle.radiotap_rules.proofs.Walks.{fieldAt, on-field, by-meaning, by-walks, served-reads, read-served}
-
-either : {A : Type 0} (P : A → Type 0) (t : Bool) (x y : A) → (t ≡ true → P x) → P y → P (cond t x y)
-either P true x y h h′ = h refl
-either P false x y h h′ = h′
 
 -- what an accepted fixed header says of its length: it is the one in its octets, and lies between the fixed header's and
 -- the input's
@@ -37,7 +32,7 @@ own-row rules edition words q =
     let n : ℕ = rowNumber words q in
     subst (λ (n : ℕ). OwnRow rules n (meaning rules edition words q)) (number-bit words q)
     (by-meaning words q (λ meaningIn. OwnRow rules n (meaningIn rules edition)) tt tt
-    (either (OwnRow rules n) (knows rules edition n) _ _ (λ k. refl) tt))
+    (either (OwnRow rules n) (knows rules edition n) _ _ (λ k. refl) (λ k. tt)))
 
 none-lie : (rules : Rules) (s : List ℕ) (size : ℕ) → AllLie rules s size []
 none-lie rules s size k f e x = let z : _≡_ {A = ℕ} 0 1 = cc in absurd (omega arith)

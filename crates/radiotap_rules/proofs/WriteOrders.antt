@@ -11,17 +11,15 @@ use native.Mathlib.Omega.{arith}
 use native.Mathlib.Nat.{mod-eq-of-lt}
 use native.Mathlib.Decide.{ℕ-discrete}
 use lib.ListN.{length}
-use lib.Dec.{eqb}
 use borrow.Author.Tests.{leb-true, leb-false, eqb-true, eqb-false, le-leb, lt-leb, eq-eqb, ne-eqb}
 use Rattle.refusals.specs.Refusals.{Answer, refused, given}
-use Rattle.octets.specs.Parts.{hasRoom}
 use Rattle.radiotap_rules.specs.Rules.{Rules, knows, editionTaken, served}
 use Rattle.radiotap_rules.specs.Reading.{bitSet, wordBits, bitAt, Meaning, nothing, unknownHere, field, meaning, Reading, refusedBefore, reading, fieldOf}
 use Rattle.radiotap_rules.specs.Answers.{summary, octetsOfField, frameIn, dbmOf, listedInto}
-use Rattle.radiotap_rules.specs.Writing.{isField, writableAt, writableFrom, writable, plan, summed, writing, written}
+use Rattle.radiotap_rules.specs.Writing.{isField, writableAt, writableFrom, writable, writing, written}
 use Rattle.radiotap_rules.specs.Orders.{readAbove, UnknownSet, AllKnown, Writes, writtenLength, WriteRefused, writeAbove, atUnknownBit, atOtherLength, atNoRoom, WriteExactly, EditionAbove}
 use Rattle.radiotap_rules.proofs.Meanings.{number-alone, present-alone, MeansSo, means-so}
-use Rattle.radiotap_rules.proofs.Orders.{before-exactly}
+use Rattle.radiotap_rules.proofs.Orders.{Told, toldRefused, toldGiven, of-refused, of-given, either, before-exactly}
 
 module _ (rules : Rules) (edition word : ℕ) where
   -- a bit that is judged: where it is set it is a field that the edition knows, or there is a set one that is not
@@ -129,45 +127,24 @@ module _ (rules : Rules) (size at edition word : ℕ) (values : List ℕ) where
 
   -- an answer of writing, with its condition
   abbrev WriteTold : Answer ℕ → Type 0
-  WriteTold (refused number place) = WriteRefused rules size at edition word values number place
-  WriteTold (given next) = Accepted next
+  WriteTold = Told (WriteRefused rules size at edition word values) Accepted
 
   write-told : WriteTold (writing rules size at edition word values)
   unfolding writing
-  write-told = on-edition (served rules edition) refl
-    where
-      n : ℕ
-      n = writtenLength rules edition word values
-
-      on-room : Writes rules edition word values → (t : Bool) → hasRoom size at n ≡ t → WriteTold (cond t (given (at + n)) (refused 13 0))
-      on-room h true e = (h, leb-true _ _ e, refl)
-      on-room h false e = atNoRoom h (leb-false _ _ e)
-
-      on-values : edition ≤ rules .newest → AllKnown rules taken word → (t : Bool)
-          → eqb (length values) (summed (plan rules taken word)) ≡ t
-          → WriteTold (cond t (cond (hasRoom size at n) (given (at + n)) (refused 13 0)) (refused 19 0))
-      on-values l known true e =
-          on-room (record { served = l; known = known; long = eqb-true _ _ e }) (hasRoom size at n) refl
-      on-values l known false e = atOtherLength l known (eqb-false _ _ e)
-
-      on-word : edition ≤ rules .newest → (t : Bool) → writable rules taken word ≡ t
-          → WriteTold
-          (cond t
-          (cond (eqb (length values) (summed (plan rules taken word))) (cond (hasRoom size at n) (given (at + n)) (refused 13 0)) (refused 19 0))
-          (refused 18 0))
-      on-word l true e =
-          on-values l (writable-known rules taken word .0 e) (eqb (length values) (summed (plan rules taken word))) refl
-      on-word l false e = atUnknownBit l (writable-unknown rules taken word .0 e)
-
-      on-edition : (t : Bool) → served rules edition ≡ t
-          → WriteTold
-          (cond t
-          (cond (writable rules taken word)
-          (cond (eqb (length values) (summed (plan rules taken word))) (cond (hasRoom size at n) (given (at + n)) (refused 13 0)) (refused 19 0))
-          (refused 18 0))
-          (refused 15 0))
-      on-edition true e = on-word (leb-true _ _ e) (writable rules taken word) refl
-      on-edition false e = writeAbove (leb-false _ _ e)
+  write-told =
+      either WriteTold _ _ _
+      (λ serves.
+      let l : edition ≤ rules .newest = leb-true _ _ serves in
+      either WriteTold _ _ _
+      (λ known.
+      let all : AllKnown rules taken word = writable-known rules taken word .0 known in
+      either WriteTold _ _ _
+      (λ long.
+      let w : Writes rules edition word values = record { served = l; known = all; long = eqb-true _ _ long } in
+      either WriteTold _ _ _ (λ room. toldGiven (w, leb-true _ _ room, refl)) (λ few. toldRefused (atNoRoom w (leb-false _ _ few))))
+      (λ other. toldRefused (atOtherLength l all (eqb-false _ _ other))))
+      (λ unknown. toldRefused (atUnknownBit l (writable-unknown rules taken word .0 unknown))))
+      (λ above. toldRefused (writeAbove (leb-false _ _ above)))
 
   -- and each condition gives its answer
   write-refused : {number place : ℕ} → WriteRefused rules size at edition word values number place
@@ -201,15 +178,15 @@ pub write-exactly : WriteExactly
 write-exactly rules size at edition word values =
     record {
       accepted = λ next.
-          (λ e. subst Told e told, write-accepted rules size at edition word values next);
+          (λ e. of-given (subst Holds e told), write-accepted rules size at edition word values next);
       refuses = λ number place.
-          (λ e. subst Told e told, write-refused rules size at edition word values);
+          (λ e. of-refused (subst Holds e told), write-refused rules size at edition word values);
     }
   where
-    Told : Answer ℕ → Type 0
-    Told = WriteTold rules size at edition word values
+    Holds : Answer ℕ → Type 0
+    Holds = WriteTold rules size at edition word values
 
-    told : Told (writing rules size at edition word values)
+    told : Holds (writing rules size at edition word values)
     told = write-told rules size at edition word values
 
 -- the output of a refused write is as it was
