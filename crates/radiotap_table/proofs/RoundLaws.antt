@@ -58,9 +58,9 @@ alignment-filled a last ok =
     let p = alignment-power a ok in
     subst (λ (x : ℕ). bitOr last (x - 1) + 1 ≡ aligned x (last + 1)) (p .1) (power-filled (p .0) last)
 
--- the same for 256
-pub masked-256 : (at : ℕ) → at + 255 - bitAnd (at + 255) 255 ≡ aligned 256 at
-masked-256 at = power-masked 8 at
+-- the same for 32 bits
+pub masked-whole : (at : ℕ) → at + 4294967295 - bitAnd (at + 4294967295) 4294967295 ≡ aligned 4294967296 at
+masked-whole at = power-masked 32 at
 
 -- an alignment is at most 8
 pub alignment-most : (a : ℕ) → alignmentOk a ≡ true → a ≤ 8

@@ -104,5 +104,5 @@ unfolding layOf
 span-lies edition bit last spans k =
     let a : ℕ = rowOf ourRules bit .alignment in
     let ok : alignmentOk a ≡ true = known-alignment ourRules edition bit refl k in
-    let mask : (a + 255) % 256 ≡ a - 1 = omega (arith, alignment-above a ok, alignment-most a ok) in
+    let mask : (a + 4294967295) % 4294967296 ≡ a - 1 = omega (arith, alignment-above a ok, alignment-most a ok) in
     rw (k, spans .0, spans .1, mask, alignment-filled a last ok)

@@ -22,15 +22,15 @@ laySays (Layout.Lies start size) = lies start size
 abbrev pub LaysRow : List ℕ → (taken at : ℕ) → Layout → Type 0
 LaysRow row taken at r = (bit : ℕ) → row ≡ numbersIn ourRules bit → laySays r ≡ layOf ourRules taken bit at
 
--- what a field takes by the three numbers of its row: its alignment less one (255 where it has none, as no edition knows
--- it), and its size
+-- what a field takes by the three numbers of its row: its alignment less one (all 32 bits where it has none, as no edition
+-- knows it), and its size
 abbrev pub SpansRow : List ℕ → Span → Type 0
-SpansRow row r = (r .mask ≡ (getD row 0 0 + 255) % 256) × (r .size ≡ getD row 1 0)
+SpansRow row r = (r .mask ≡ (getD row 0 0 + 4294967295) % 4294967296) × (r .size ≡ getD row 1 0)
 
 -- what the field of a bit takes
 abbrev pub SpannedAs : (bit : ℕ) → Span → Type 0
 SpannedAs bit r = SpansRow (numbersIn ourRules bit) r
 
--- the next multiple of what is an alignment; of 256 for 0
+-- the next multiple of what is an alignment; of 2^32 for 0
 abbrev pub AlignedAs : (alignment at r : ℕ) → Type 0
-AlignedAs alignment at r = (alignmentOk alignment ≡ true → r ≡ aligned alignment at) × (alignment ≡ 0 → r ≡ aligned 256 at)
+AlignedAs alignment at r = (alignmentOk alignment ≡ true → r ≡ aligned alignment at) × (alignment ≡ 0 → r ≡ aligned 4294967296 at)

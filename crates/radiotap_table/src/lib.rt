@@ -141,11 +141,11 @@ pub fn span_of(row: [u8; 3]) -> Span
     Span { mask, size }
 }
 
-// The mask of an alignment: the alignment less one, and 255 for 0.
+// The mask of an alignment: the alignment less one, and all 32 bits for 0.
 fn mask_of(alignment: u8) -> usize
-    ensures { λ r. ⌜ r ≡ (alignment + 255) % 256 ⌝ }
+    ensures { λ r. ⌜ r ≡ (alignment + 4294967295) % 4294967296 ⌝ }
 {
-    (alignment as usize + 255) % 256
+    std::num::wrapping_sub_u32(alignment as u32, 1) as usize
 }
 
 // The next multiple of an alignment: a power of two, so that a mask gives the remainder.

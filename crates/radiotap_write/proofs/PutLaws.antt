@@ -17,7 +17,7 @@ use Rattle.radiotap_rules.specs.Reading.{fixedLength, wordBits}
 use Rattle.radiotap_rules.specs.Answers.{unknownField, layOf}
 use Rattle.radiotap_rules.specs.Writing.{writable, Planned, plan, summed, laid, headerOctets}
 use Rattle.radiotap_bits.specs.Bits.{NextSet}
-use Rattle.radiotap_write.proofs.PlanLaws.{knownOn, planOn, Reached, Met, reached-first, met-unknown, reached-next}
+use Rattle.radiotap_plan.proofs.PlanLaws.{knownOn, planOn, Reached, Met, reached-first, met-unknown, reached-next}
 
 -- so many of the pad octets
 pub take-pad : (m n : ℕ) → n ≤ m → take {A = ℕ} n (replicate m 0) ≡ replicate n 0

@@ -9,7 +9,10 @@ ghost use Rattle.octets.specs.Parts.{splice, put as putAt};
 ghost use Rattle.radiotap_rules.specs.Table.{ourRules};
 ghost use Rattle.radiotap_rules.specs.Reading.{fixedLength};
 ghost use Rattle.radiotap_rules.specs.Writing.{plan as planOf, laid, headerOctets, writing, written};
-ghost use Rattle.radiotap_write.specs.Says.{PlanSays, Accepted};
+ghost use Rattle.radiotap_write.specs.Says.{Accepted};
+use radiotap_plan::FIXED_LENGTH;
+use radiotap_plan::Plan;
+use radiotap_plan::WORD_BITS;
 use radiotap_table::EDITION_ABOVE;
 use radiotap_table::Layout;
 use refusals::WriteAnswer;
@@ -18,11 +21,6 @@ use refusals::WriteAnswer;
 pub const UNKNOWN_BIT: u32 = 18;
 // Packed values not of the summed length.
 pub const VALUES_LENGTH: u32 = 19;
-
-// The fixed header: version, pad, length, presence word.
-const FIXED_LENGTH: u32 = 8;
-// The bits of a presence word.
-const WORD_BITS: u32 = 32;
 
 // Writes a header: an edition, one presence word, and the values packed without gaps in bit order.
 pub fn write(
@@ -38,8 +36,8 @@ pub fn write(
     if !radiotap_table::served(edition) {
         return refusals::write_refused(EDITION_ABOVE);
     }
-    let edition = radiotap_table::writing(edition);
-    match planned(edition, presence) {
+    let taken = radiotap_table::writing(edition);
+    match radiotap_plan::planned(taken, presence) {
         Plan::Unknown => refusals::write_refused(UNKNOWN_BIT),
         Plan::Fields { size, summed } => {
             if values.len() != summed {
@@ -49,52 +47,20 @@ pub fn write(
             if !octets::has_room(out.len(), place, length) {
                 return refusals::write_refused(refusals::NO_ROOM);
             }
-            put_header(out, place, edition, presence, values, size);
+            put_header(out, place, taken, presence, values, size);
             let next = place + length;
             WriteAnswer::Written(next)
         }
     }
 }
 
-// What a presence word asks for in an edition: a bit that it doesn't know; or the header's length and the values'.
-enum Plan {
-    Unknown,
-    Fields { size: u16, summed: usize },
-}
-
-// Adds up the fields of a presence word, from set bit to set bit.
-fn planned(edition: u32, presence: u32) -> Plan
-    ensures { λ r. ⌜ PlanSays edition presence r ⌝ }
-{
-    let mut at = FIXED_LENGTH;
-    let mut summed = 0;
-    let mut bit = radiotap_bits::next_set(presence, 0);
-    while bit < WORD_BITS {
-        match radiotap_table::lay(edition, bit as usize, at) {
-            Layout::Unknown => {
-                return Plan::Unknown;
-            }
-            Layout::Lies { start, size } => {
-                let long = size as usize;
-                at = (start + long) as u32;
-                summed += long;
-                bit = radiotap_bits::next_set(presence, bit + 1);
-            }
-        }
-    }
-    Plan::Fields {
-        size: at as u16,
-        summed,
-    }
-}
-
-// Puts an accepted header of a length.
-fn put_header(out: &mut [u8], place: usize, edition: u32, presence: u32, values: &[u8], size: u16)
-    requires { ⌜ Accepted (length (now out)) place edition presence (now values) × (size ≡ length (headerOctets ourRules edition presence (now values))) ⌝ }
-    ensures { λ _. ⌜ now (out .exit) ≡ splice (now (out .entry)) place (headerOctets ourRules edition presence (now (values .entry))) ⌝ }
+// Puts an accepted header of a length, in the edition taken.
+fn put_header(out: &mut [u8], place: usize, taken: u32, presence: u32, values: &[u8], size: u16)
+    requires { ⌜ Accepted (length (now out)) place taken presence (now values) × (size ≡ length (headerOctets ourRules taken presence (now values))) ⌝ }
+    ensures { λ _. ⌜ now (out .exit) ≡ splice (now (out .entry)) place (headerOctets ourRules taken presence (now (values .entry))) ⌝ }
 {
     put_fixed(out, place, size, presence);
-    put_fields(out, place, edition, presence, values);
+    put_fields(out, place, taken, presence, values);
 }
 
 // Puts a fixed header where there is room for it.
@@ -109,15 +75,15 @@ fn put_fixed(out: &mut [u8], place: usize, size: u16, presence: u32)
 
 // Puts the fields of an accepted header behind its fixed header, from set bit to set bit. (Each is known, so that the
 // table answers where it lies.)
-fn put_fields(out: &mut [u8], place: usize, edition: u32, presence: u32, values: &[u8])
-    requires { ⌜ Accepted (length (now out)) place edition presence (now values) ⌝ }
-    ensures { λ _. ⌜ now (out .exit) ≡ splice (now (out .entry)) (place + fixedLength) (laid (planOf ourRules edition presence) fixedLength (now (values .entry))) ⌝ }
+fn put_fields(out: &mut [u8], place: usize, taken: u32, presence: u32, values: &[u8])
+    requires { ⌜ Accepted (length (now out)) place taken presence (now values) ⌝ }
+    ensures { λ _. ⌜ now (out .exit) ≡ splice (now (out .entry)) (place + fixedLength) (laid (planOf ourRules taken presence) fixedLength (now (values .entry))) ⌝ }
 {
     let mut free = FIXED_LENGTH;
     let mut used = 0;
     let mut bit = radiotap_bits::next_set(presence, 0);
     while bit < WORD_BITS {
-        match radiotap_table::lay(edition, bit as usize, free) {
+        match radiotap_table::lay(taken, bit as usize, free) {
             Layout::Unknown => {
                 return;
             }

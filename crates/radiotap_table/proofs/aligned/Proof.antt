@@ -5,7 +5,7 @@ use mathlib.Core.Path.{_≡_, _∙_}
 use borrow.Author.Needs.{needs}
 use native.Mathlib.Omega.{arith}
 use lib.Bits.{and-le-l}
-use Rattle.radiotap_table.proofs.RoundLaws.{alignment-above, alignment-most, alignment-masked, masked-256}
+use Rattle.radiotap_table.proofs.RoundLaws.{alignment-above, alignment-most, alignment-masked, masked-whole}
 use Rattle.radiotap_table.proofs.aligned.Statement.{statement}
 use Rattle.radiotap_table.proofs.aligned.Tie as tie
 
@@ -22,11 +22,11 @@ returns : tie.Need-returns
 returns c =
     let a = c .before .args .alignment in (
       λ ok.
-          let mask : (a + 255) % 256 ≡ a - 1 = omega (arith, alignment-above a ok, alignment-most a ok) in
+          let mask : (a + 4294967295) % 4294967296 ≡ a - 1 = omega (arith, alignment-above a ok, alignment-most a ok) in
           rw (c .mask-of .ensures ∙ mask) (alignment-masked a (c .before .args .at) ok),
       λ none.
-          let mask : (a + 255) % 256 ≡ 255 = omega arith in
-          rw (c .mask-of .ensures ∙ mask) (masked-256 (c .before .args .at)),
+          let mask : (a + 4294967295) % 4294967296 ≡ 4294967295 = omega arith in
+          rw (c .mask-of .ensures ∙ mask) (masked-whole (c .before .args .at)),
     )
 
 pub aligned-spec : {M : Type 1} → statement M

@@ -10,28 +10,28 @@ use Rattle.octets.specs.Parts.{put}
 use Rattle.radiotap_rules.specs.Reading.{wordBits}
 use Rattle.radiotap_rules.specs.Table.{ourRules}
 use Rattle.radiotap_table.specs.Says.{laySays}
-use Rattle.radiotap_write.proofs.PlanLaws.{set-later, Met, met-field}
+use Rattle.radiotap_plan.proofs.PlanLaws.{set-later, Met, met-field}
 use Rattle.radiotap_write.proofs.PutLaws.{Filled, filled-none, filled-known, filled-values, filled-fits, filled-field, filled-same, filled-all}
 use Rattle.radiotap_write.proofs.put_fields.Statement.{statement}
 use Rattle.radiotap_write.proofs.put_fields.Tie as tie
 
 abbrev Inv-loop : tie.InvT-loop
-Inv-loop out₀ place edition presence values free₀ used₀ bit₀ out free used bit =
-    Filled ourRules out₀ place edition presence values out free used bit
+Inv-loop out₀ place taken presence values free₀ used₀ bit₀ out free used bit =
+    Filled ourRules out₀ place taken presence values out free used bit
 
 abbrev μ-loop : tie.MeasureT-loop
-μ-loop out₀ place edition presence values free₀ used₀ bit₀ out free used bit = wordBits - bit
+μ-loop out₀ place taken presence values free₀ used₀ bit₀ out free used bit = wordBits - bit
 
 -- the field at the bit that was reached
 met : (c : tie.After-known-told Inv-loop μ-loop)
     → let a = c .before .before .before .before .before .before .before .before .before .args in
     let l = c .before .before .before .before .before .loop in
-    Met ourRules (a .edition) (a .presence) (l .free) (l .bit) (c .before .start .given .0 .0) (c .before .start .given .0 .1 .0)
+    Met ourRules (a .taken) (a .presence) (l .free) (l .bit) (c .before .start .given .0 .0) (c .before .start .given .0 .1 .0)
 met c =
     let a = c .before .before .before .before .before .before .before .before .before .args in
     let f = c .before .before .before .before .before .loop .inv in
     let told = sym (c .before .before .before .lay .ensures) ∙ ap laySays (c .before .start .given .1) in
-    met-field ourRules (a .edition) (a .presence) (f .here) (omega arith) refl told
+    met-field ourRules (a .taken) (a .presence) (f .here) (omega arith) refl told
 
 -- it ends inside the output
 fits : (c : tie.After-known-told Inv-loop μ-loop)
@@ -40,7 +40,7 @@ fits : (c : tie.After-known-told Inv-loop μ-loop)
 fits c =
     let start = c .before .before .before .before .before .before .before .before .before in
     let a = start .args in
-    filled-fits ourRules (now (a .out)) (a .place) (a .edition) (a .presence) (now (a .values))
+    filled-fits ourRules (now (a .out)) (a .place) (a .taken) (a .presence) (now (a .values))
     (c .before .before .before .before .before .loop .inv) (met c) (start .pre .fits)
 
 next-set-requires : tie.Need-next-set-requires Inv-loop μ-loop
@@ -50,7 +50,7 @@ loop-holds : tie.Need-loop-holds Inv-loop μ-loop
 loop-holds c =
     let start = c .before .before .before in
     let a = start .args in
-    filled-none ourRules (now (a .out)) (a .place) (a .edition) (a .presence) (now (a .values))
+    filled-none ourRules (now (a .out)) (a .place) (a .taken) (a .presence) (now (a .values))
     (start .pre .known) (start .pre .long) (c .next-set .ensures)
 
 cast-lay : tie.Need-cast-lay Inv-loop μ-loop
@@ -66,13 +66,13 @@ same-length : tie.Need-same-length Inv-loop μ-loop
 same-length c =
     let start = c .before .before .before .before .before .before .before .before in
     let a = start .args in
-    filled-same ourRules (now (a .out)) (a .place) (a .edition) (a .presence) (now (a .values)) (c .before .before .before .before .loop .inv) (start .pre .fits)
+    filled-same ourRules (now (a .out)) (a .place) (a .taken) (a .presence) (now (a .values)) (c .before .before .before .before .loop .inv) (start .pre .fits)
 
 returns : tie.Need-returns Inv-loop μ-loop
 returns c =
     let a = c .before .before .before .before .before .before .before .before .args in
     let told = sym (c .before .before .lay .ensures) ∙ ap laySays (c .enum-told .given .1) in
-    absurd (filled-known ourRules (now (a .out)) (a .place) (a .edition) (a .presence) (now (a .values)) (c .before .before .before .before .loop .inv) (omega arith) told)
+    absurd (filled-known ourRules (now (a .out)) (a .place) (a .taken) (a .presence) (now (a .values)) (c .before .before .before .before .loop .inv) (omega arith) told)
 
 enum-known-start : tie.Need-enum-known-start Inv-loop μ-loop
 enum-known-start c = search needs
@@ -112,7 +112,7 @@ cast-free c =
 add-used : tie.Need-add-used Inv-loop μ-loop
 add-used c =
     let a = c .before .before .before .before .before .before .before .before .before .before .before .before .before .before .before .before .before .before .args in
-    omega (arith, filled-values ourRules (now (a .out)) (a .place) (a .edition) (a .presence) (now (a .values)) (c .before .before .before .before .before .before .before .before .before .before .before .before .before .before .loop .inv) (met (c .before .before .before .before .before .before .before .before .before)))
+    omega (arith, filled-values ourRules (now (a .out)) (a .place) (a .taken) (a .presence) (now (a .values)) (c .before .before .before .before .before .before .before .before .before .before .before .before .before .before .loop .inv) (met (c .before .before .before .before .before .before .before .before .before)))
 
 add-next-set : tie.Need-add-next-set Inv-loop μ-loop
 add-next-set c = search needs
@@ -132,7 +132,7 @@ loop-again c =
     let a = start .args in
     let padded = c .before .before .before .before .before .before .before .before .put-pad in
     let value = ap (put (padded .last .0) (a .place + c .before .before .before .before .before .before .before .before .before .before .before .start .given .0 .0)) (c .before .before .before .before .part .ensures) in
-    filled-field ourRules (now (a .out)) (a .place) (a .edition) (a .presence) (now (a .values))
+    filled-field ourRules (now (a .out)) (a .place) (a .taken) (a .presence) (now (a .values))
     (c .before .before .before .before .before .before .before .before .before .before .before .before .before .before .before .loop .inv) (met (c .before .before .before .before .before .before .before .before .before .before)) (start .pre .fits) (omega arith) (omega arith) (c .next-set2 .ensures) (padded .ensures)
     (c .before .before .before .put .ensures ∙ value)
 
@@ -140,12 +140,12 @@ same-length-2 : tie.Need-same-length-2 Inv-loop μ-loop
 same-length-2 c =
     let start = c .before .before .before .before .before in
     let a = start .args in
-    filled-same ourRules (now (a .out)) (a .place) (a .edition) (a .presence) (now (a .values)) (c .before .loop .inv) (start .pre .fits)
+    filled-same ourRules (now (a .out)) (a .place) (a .taken) (a .presence) (now (a .values)) (c .before .loop .inv) (start .pre .fits)
 
 returns-2 : tie.Need-returns-2 Inv-loop μ-loop
 returns-2 c =
     let a = c .before .before .before .before .before .args in
-    filled-all ourRules (now (a .out)) (a .place) (a .edition) (a .presence) (now (a .values)) (c .before .loop .inv) (omega arith)
+    filled-all ourRules (now (a .out)) (a .place) (a .taken) (a .presence) (now (a .values)) (c .before .loop .inv) (omega arith)
 
 pub put-fields-spec : {M : Type 1} → statement M
 put-fields-spec =

@@ -13,7 +13,7 @@ put-fixed-requires : tie.Need-put-fixed-requires
 put-fixed-requires c κs =
     let start = c .before .before .before in
     let a = start .args in
-    omega (arith, start .pre .0 .fits, header-long ourRules (a .edition) (a .presence) (now (a .values)))
+    omega (arith, start .pre .0 .fits, header-long ourRules (a .taken) (a .presence) (now (a .values)))
 
 put-fields-requires : tie.Need-put-fields-requires
 put-fields-requires c κs = search needs
@@ -25,7 +25,7 @@ returns : tie.Need-returns
 returns c =
     let start = c .before .before .before .before .before .before .before .before .before .before in
     let a = start .args in
-    header-put ourRules (now (a .out)) (a .place) (a .edition) (a .presence) (now (a .values)) (omega (arith, start .pre .0 .fits))
+    header-put ourRules (now (a .out)) (a .place) (a .taken) (a .presence) (now (a .values)) (omega (arith, start .pre .0 .fits))
     (sym (start .pre .1)) (c .before .before .before .before .before .before .put-fixed .ensures) (c .before .before .put-fields .ensures)
 
 pub put-header-spec : {M : Type 1} → statement M

@@ -1,4 +1,4 @@
--- `radiotap_write::planned` meets its contract: the loop keeps what is added up so far (`Added`), and each answer of the table carries it on.
+-- `radiotap_plan::planned` meets its contract: the loop keeps what is added up so far (`Added`), and each answer of the table carries it on.
 -- Assumes nothing.
 use Prim.Native.Nat.{_+_, _-_, _<_}
 use mathlib.Core.Path.{refl, sym, ap, _∙_}
@@ -7,15 +7,15 @@ use native.Mathlib.Omega.{arith}
 use Rattle.radiotap_rules.specs.Reading.{wordBits}
 use Rattle.radiotap_rules.specs.Table.{ourRules}
 use Rattle.radiotap_table.specs.Says.{laySays}
-use Rattle.radiotap_write.proofs.PlanLaws.{set-later, met-field, Added, added-none, added-unknown, added-field, added-all}
-use Rattle.radiotap_write.proofs.planned.Statement.{statement}
-use Rattle.radiotap_write.proofs.planned.Tie as tie
+use Rattle.radiotap_plan.proofs.PlanLaws.{set-later, met-field, Added, added-none, added-unknown, added-field, added-all}
+use Rattle.radiotap_plan.proofs.planned.Statement.{statement}
+use Rattle.radiotap_plan.proofs.planned.Tie as tie
 
 abbrev Inv-loop : tie.InvT-loop
-Inv-loop edition presence at₀ summed₀ bit₀ at summed bit = Added ourRules edition presence at summed bit
+Inv-loop taken presence at₀ summed₀ bit₀ at summed bit = Added ourRules taken presence at summed bit
 
 abbrev μ-loop : tie.MeasureT-loop
-μ-loop edition presence at₀ summed₀ bit₀ at summed bit = wordBits - bit
+μ-loop taken presence at₀ summed₀ bit₀ at summed bit = wordBits - bit
 
 -- the next field's end, and what is then added up, stay small
 small : (c : tie.After-known-told Inv-loop μ-loop)
@@ -25,14 +25,14 @@ small c =
     let a = c .before .before .before .before .before .before .before .args in
     let f = c .before .before .before .before .before .loop .inv in
     let told = sym (c .before .before .before .lay .ensures) ∙ ap laySays (c .before .start .given .1) in
-    let m = met-field ourRules (a .edition) (a .presence) (f .here) (omega arith) refl told in
+    let m = met-field ourRules (a .taken) (a .presence) (f .here) (omega arith) refl told in
     (omega (arith, m .near, f .here .low, f .here .high), omega (arith, m .near, f .here .low, f .here .high, f .few))
 
 next-set-requires : tie.Need-next-set-requires Inv-loop μ-loop
 next-set-requires c κs = search needs
 
 loop-holds : tie.Need-loop-holds Inv-loop μ-loop
-loop-holds c = added-none ourRules refl (c .before .args .edition) (c .before .args .presence) (c .next-set .ensures)
+loop-holds c = added-none ourRules refl (c .before .args .taken) (c .before .args .presence) (c .next-set .ensures)
 
 cast-lay : tie.Need-cast-lay Inv-loop μ-loop
 cast-lay c = search needs
@@ -47,7 +47,7 @@ returns : tie.Need-returns Inv-loop μ-loop
 returns c =
     let a = c .before .before .before .before .before .before .args in
     let told = sym (c .before .before .lay .ensures) ∙ ap laySays (c .enum-told .given .1) in
-    added-unknown ourRules refl (a .edition) (a .presence) (c .before .before .before .before .loop .inv) (omega arith) told
+    added-unknown ourRules refl (a .taken) (a .presence) (c .before .before .before .before .loop .inv) (omega arith) told
 
 enum-known-start : tie.Need-enum-known-start Inv-loop μ-loop
 enum-known-start c = search needs
@@ -80,7 +80,7 @@ loop-again : tie.Need-loop-again Inv-loop μ-loop
 loop-again c =
     let a = c .before .before .before .before .before .before .before .before .args in
     let told = sym (c .before .before .before .before .lay .ensures) ∙ ap laySays (c .before .before .start .given .1) in
-    added-field ourRules refl (a .edition) (a .presence) (c .before .before .before .before .before .before .loop .inv)
+    added-field ourRules refl (a .taken) (a .presence) (c .before .before .before .before .before .before .loop .inv)
     (omega arith) told (omega arith) (c .next-set2 .ensures)
 
 cast-t14 : tie.Need-cast-t14 Inv-loop μ-loop
@@ -89,7 +89,7 @@ cast-t14 c = omega (arith, c .before .loop .inv .here .low, c .before .loop .inv
 returns-2 : tie.Need-returns-2 Inv-loop μ-loop
 returns-2 c =
     let a = c .before .before .before .args in
-    added-all ourRules refl (a .edition) (a .presence) (c .before .loop .inv) (omega arith)
+    added-all ourRules refl (a .taken) (a .presence) (c .before .loop .inv) (omega arith)
 
 pub planned-spec : {M : Type 1} → statement M
 planned-spec =
