@@ -5,11 +5,9 @@ use mathlib.Core.Bool.{cond}
 use mathlib.Core.List.{List}
 use lib.ListN.{length}
 use lib.Dec.{ltb}
-use Rattle.octets.specs.Signed.{signed}
 use Rattle.octets.specs.Parts.{part}
 use Rattle.radiotap_rules.specs.Reading.{Field, ended, stopped, refusedField, theField, noField}
 use Rattle.radiotap_rules.specs.Reading.{FieldAnswer as FieldOf}
-use Rattle.radiotap_rules.specs.Answers.{isDbm, Dbm, notDbm, dbmValue}
 use Rattle.radiotap.specs.Outcomes.{Outcome, refusedOutcome, shownOutcome}
 use Rattle.radiotap_field.specs.declared.Kept.{Kept}
 use Rattle.radiotap_field.specs.declared.Walked.{Walked}
@@ -42,7 +40,3 @@ numberedAs k (shownOutcome fields e kept) = cond (ltb k fields) (theField kept) 
 abbrev pub NumberedAs : ℕ → Walked → FieldAnswer → Type 0
 NumberedAs k walk r =
     (s : List ℕ) → (fieldSays s r ≡ numberedAs k (walkSays s walk)) × (KeptInside s walk → FieldSized s r)
-
--- the value of a field, by its bit and its first octet
-abbrev pub valuedAs : (bit octet : ℕ) → Dbm
-valuedAs bit octet = cond (isDbm bit) (dbmValue (signed 8 octet)) notDbm

@@ -6,9 +6,7 @@ use lib.ListN.{length}
 use Rattle.octets.specs.Parts.{part}
 use Rattle.radiotap_rules.specs.Reading.{ended, stopped, refusedField, theField, noField}
 use Rattle.radiotap_rules.specs.Reading.{FieldAnswer as FieldOf}
-use Rattle.radiotap_rules.specs.Answers.{Dbm, refusedDbm, noDbmField, notDbm, dbmValue}
 use Rattle.radiotap_field.specs.declared.FieldAnswer.{FieldAnswer}
-use Rattle.radiotap_field.specs.declared.DbmAnswer.{DbmAnswer}
 
 -- a field number: the refusal, the end, the stop, or the field: its octets are so many of the input from its start on
 abbrev pub fieldSays : List ℕ → FieldAnswer → FieldOf
@@ -24,11 +22,3 @@ FieldSized s (FieldAnswer.Refused r) = Unit {0}
 FieldSized s FieldAnswer.End = Unit {0}
 FieldSized s (FieldAnswer.Stop word bit) = Unit {0}
 FieldSized s (FieldAnswer.Field word bit start size) = length (part s start size) ≡ size
-
--- a dBm value: the refusal, the end, the stop, that the field is no dBm, or the signed number
-abbrev pub dbmSays : DbmAnswer → Dbm
-dbmSays (DbmAnswer.Refused r) = refusedDbm (r .number) (r .place)
-dbmSays DbmAnswer.End = noDbmField ended
-dbmSays (DbmAnswer.Stop word bit) = noDbmField (stopped word bit)
-dbmSays DbmAnswer.NotDbm = notDbm
-dbmSays (DbmAnswer.Dbm value) = dbmValue value

@@ -1,14 +1,14 @@
-// A field of a radiotap header by its number, its octets, and the value of a dBm field. A header is judged whole first: one
-// refused at a field shows none.
+// A field of a radiotap header by its number, and its octets. A header is judged whole first: one refused at a field shows
+// none.
 ghost use mathlib.Core.Path.{_≡_};
 ghost use Rattle.refusals.specs.Refusals.{given};
 ghost use Rattle.radiotap_rules.specs.Table.{ourRules};
 ghost use Rattle.radiotap_rules.specs.Reading.{presenceWords, readWords, reading, fieldOf};
 ghost use Rattle.radiotap_rules.specs.Steps.{headAt};
-ghost use Rattle.radiotap_rules.specs.Answers.{octetsOfField, dbmOf};
+ghost use Rattle.radiotap_rules.specs.Answers.{octetsOfField};
 ghost use Rattle.radiotap.specs.Outcomes.{outcome};
-ghost use Rattle.radiotap_field.specs.Says.{fieldSays, FieldSized, dbmSays};
-ghost use Rattle.radiotap_field.specs.Keeping.{walkSays, KeptInside, NumberedAs, keptField, valuedAs};
+ghost use Rattle.radiotap_field.specs.Says.{fieldSays, FieldSized};
+ghost use Rattle.radiotap_field.specs.Keeping.{walkSays, KeptInside, NumberedAs, keptField};
 use radiotap_head::HeadAnswer;
 use radiotap_rules::Head;
 use radiotap_step::Step;
@@ -28,15 +28,6 @@ pub enum FieldAnswer {
         start: usize,
         size: u8,
     },
-}
-
-// The value of a dBm field; a field that is none has an answer of its own.
-pub enum DbmAnswer {
-    Refused(Refusal),
-    End,
-    Stop { word: u32, bit: u32 },
-    NotDbm,
-    Dbm(i8),
 }
 
 // Reads a field by its number.
@@ -186,37 +177,4 @@ pub fn octets_of(s: &[u8], edition: u32, number: usize) -> &[u8]
             size,
         } => octets::part(s, start, size as usize),
     }
-}
-
-// The value of a dBm field by its number.
-pub fn dbm(s: &[u8], edition: u32, number: usize) -> DbmAnswer
-    ensures { λ r. ⌜ dbmSays r ≡ dbmOf (fieldOf (reading ourRules edition (now (s .entry))) number) ⌝ }
-{
-    match field(s, edition, number) {
-        FieldAnswer::Refused(refusal) => DbmAnswer::Refused(refusal),
-        FieldAnswer::End => DbmAnswer::End,
-        FieldAnswer::Stop { word, bit } => DbmAnswer::Stop { word, bit },
-        FieldAnswer::Field {
-            word: _,
-            bit,
-            start,
-            size: _,
-        } => value(bit, octets::octet(s, start, 0)),
-    }
-}
-
-// The value of a field with a bit whose first octet this is: bits 5, 6 and 10 are signed dBm.
-fn value(bit: u32, octet: u8) -> DbmAnswer
-    ensures { λ r. ⌜ dbmSays r ≡ valuedAs bit octet ⌝ }
-{
-    if bit == 5 {
-        return DbmAnswer::Dbm(twos_complement::signed8(octet));
-    }
-    if bit == 6 {
-        return DbmAnswer::Dbm(twos_complement::signed8(octet));
-    }
-    if bit == 10 {
-        return DbmAnswer::Dbm(twos_complement::signed8(octet));
-    }
-    DbmAnswer::NotDbm
 }

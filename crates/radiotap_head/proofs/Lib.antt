@@ -1,3 +1,2 @@
-pub mod FixedLaws
 pub mod PresenceLaws
 pub mod WordLaws

@@ -8,14 +8,8 @@ use Rattle.octets.specs.Numbers.{little, numberAt}
 use Rattle.refusals.specs.Refusals.{Answer, refused, given}
 use Rattle.radiotap_rules.specs.declared.Head.{Head}
 use Rattle.radiotap_rules.specs.Answers.{Word, noWord, theWord}
-use Rattle.radiotap_head.specs.declared.FixedAnswer.{FixedAnswer}
 use Rattle.radiotap_head.specs.declared.HeadAnswer.{HeadAnswer}
 use Rattle.radiotap_head.specs.declared.WordAnswer.{WordAnswer}
-
--- the fixed header: the refusal, or the length
-abbrev pub fixedSays : FixedAnswer → Answer ℕ
-fixedSays (FixedAnswer.Refused r) = refused (r .number) (r .place)
-fixedSays (FixedAnswer.Given size) = given size
 
 -- what stands before the fields: the refusal, or the head
 abbrev pub headSays : HeadAnswer → Answer Head

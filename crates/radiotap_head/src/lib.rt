@@ -5,23 +5,20 @@ ghost use Prim.Native.Nat.{_+_, _*_};
 ghost use lib.Dec.{ltb};
 ghost use Rattle.refusals.specs.Refusals.{refused as Refused, given};
 ghost use Rattle.octets.specs.Numbers.{little, numberAt};
-ghost use Rattle.radiotap_rules.specs.Reading.{fixedHeader, presenceWords};
+ghost use Rattle.radiotap_rules.specs.Reading.{presenceWords};
 ghost use Rattle.radiotap_rules.specs.Steps.{headOfWords, headAt, firstCursor};
 ghost use Rattle.radiotap_rules.specs.Answers.{noWord, theWord, wordNumber};
-ghost use Rattle.radiotap_head.specs.Says.{fixedSays, headSays, wordSays, wordInside};
+ghost use Rattle.radiotap_head.specs.Says.{headSays, wordSays, wordInside};
+use radiotap_fixed::FixedAnswer;
 use radiotap_rules::Cursor;
 use radiotap_rules::Head;
 use refusals::Refusal;
 
-// The length is below 8 or above the input.
-pub const RADIOTAP_LENGTH: u32 = 9;
 // A presence word runs past the length.
 pub const WORD_PAST: u32 = 10;
 // A ninth presence word is called for.
 pub const NINTH_WORD: u32 = 11;
 
-// The fixed header: version, pad, length (2), presence word (4).
-pub const FIXED_LENGTH: usize = 8;
 // At most 8 presence words in all.
 pub const MOST_WORDS: u8 = 8;
 
@@ -42,42 +39,10 @@ pub enum WordAnswer {
 pub fn read(s: &[u8]) -> HeadAnswer
     ensures { λ r. ⌜ headSays r ≡ headAt (now (s .entry)) ⌝ }
 {
-    match fixed(s) {
+    match radiotap_fixed::read(s) {
         FixedAnswer::Refused(refusal) => HeadAnswer::Refused(refusal),
         FixedAnswer::Given(size) => presence(s, size),
     }
-}
-
-// The length that the fixed header gives, or the refusal.
-enum FixedAnswer {
-    Refused(Refusal),
-    Given(u32),
-}
-
-// Judges the fixed header.
-fn fixed(s: &[u8]) -> FixedAnswer
-    ensures { λ r. ⌜ fixedSays r ≡ fixedHeader (now (s .entry)) ⌝ }
-{
-    if s.len() < FIXED_LENGTH {
-        return FixedAnswer::Refused(Refusal {
-            number: refusals::SHORT_HEADER,
-            place: s.len(),
-        });
-    }
-    if octets::octet(s, 0, 0) != 0 {
-        return FixedAnswer::Refused(Refusal {
-            number: refusals::VERSION,
-            place: 0,
-        });
-    }
-    let size = octets::le16(s, 2) as u32;
-    if (size as usize) < FIXED_LENGTH || s.len() < size as usize {
-        return FixedAnswer::Refused(Refusal {
-            number: RADIOTAP_LENGTH,
-            place: 2,
-        });
-    }
-    FixedAnswer::Given(size)
 }
 
 // Counts the presence words inside a length: bit 31 of a word calls for another.

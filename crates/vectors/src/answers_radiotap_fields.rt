@@ -6,7 +6,7 @@ ghost use Rattle.radiotap_place.specs.Places.{freshPlace, movedOn, answerAt};
 ghost use Rattle.vectors.specs.Questions.{isAmong};
 use crate::question_lines;
 use crate::question_lines::low32;
-use radiotap_field::DbmAnswer;
+use radiotap_dbm::DbmAnswer;
 use radiotap_step::Step;
 
 // As many moves as a reader makes: no header has more fields, since it has at most 8 presence words of 32 bits.
@@ -33,7 +33,7 @@ fn field(s: &[u8], edition: u32, number: usize) {
     let r = zalghimo::zalghimo_radiotap_field(s, edition, number);
     question_lines::numbers(&[r.kind, r.number, r.place, r.word, r.bit, r.start, r.size]);
     question_lines::octets(radiotap_field::octets_of(s, edition, number));
-    dbm(radiotap_field::dbm(s, edition, number));
+    dbm(radiotap_dbm::read(s, edition, number));
     let moves = question_lines::least(number, MOST_MOVES);
     step(radiotap_reader::after_moves(s, edition, moves));
     step(moved_once(s, edition));

@@ -1,14 +1,14 @@
--- `radiotap_field::value` meets its contract: the signed octet for bits 5, 6 and 10, else the answer that the field is no dBm.
+-- `radiotap_dbm::value` meets its contract: the signed octet for bits 5, 6 and 10, else the answer that the field is no dBm.
 -- Assumes nothing.
 use mathlib.Core.Path.{sym, ap, _∙_}
 use mir.Syntax.{w8}
 use mir.Facts.{toZ-ofZ}
 use borrow.Author.Tests.{eq-eqb, ne-eqb}
 use Rattle.radiotap_rules.specs.Answers.{dbmValue}
-use Rattle.radiotap_field.proofs.ValueLaws.{valued-dbm, valued-other}
+use Rattle.radiotap_dbm.proofs.ValueLaws.{valued-dbm, valued-other}
 use borrow.Author.Needs.{needs}
-use Rattle.radiotap_field.proofs.value.Statement.{statement}
-use Rattle.radiotap_field.proofs.value.Tie as tie
+use Rattle.radiotap_dbm.proofs.value.Statement.{statement}
+use Rattle.radiotap_dbm.proofs.value.Tie as tie
 
 signed8-requires : tie.Need-signed8-requires
 signed8-requires c κs = search needs

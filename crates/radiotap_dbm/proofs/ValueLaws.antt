@@ -15,7 +15,7 @@ use Rattle.radiotap_rules.specs.Table.{ourRules}
 use Rattle.radiotap_rules.specs.Reading.{Field, Reading, refusedBefore, refusedAtField, read, reading, theField, fieldOf}
 use Rattle.radiotap_rules.specs.Answers.{isDbm, dbmValue, notDbm, dbmOf}
 use Rattle.radiotap_rules.proofs.Places.{fields-inside}
-use Rattle.radiotap_field.specs.Keeping.{valuedAs}
+use Rattle.radiotap_dbm.specs.Says.{valuedAs}
 
 -- the value of a field: signed dBm for bits 5, 6 and 10
 module _ (bit octet : ℕ) where

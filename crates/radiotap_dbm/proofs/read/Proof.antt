@@ -1,15 +1,15 @@
--- `radiotap_field::dbm` meets its contract: the value of the octet at the start of the field, or the answer where there is none.
+-- `radiotap_dbm::read` meets its contract: the value of the octet at the start of the field, or the answer where there is none.
 -- Assumes nothing.
 use mathlib.Core.Path.{sym, ap, _∙_}
 use denote.Ref.{now}
 use Rattle.radiotap_rules.specs.Answers.{dbmOf}
 use Rattle.radiotap_field.specs.declared.FieldAnswer.{FieldAnswer}
 use Rattle.radiotap_field.specs.Says.{fieldSays}
-use Rattle.radiotap_field.specs.Keeping.{valuedAs}
-use Rattle.radiotap_field.proofs.ValueLaws.{value-at}
+use Rattle.radiotap_dbm.specs.Says.{valuedAs}
+use Rattle.radiotap_dbm.proofs.ValueLaws.{value-at}
 use borrow.Author.Needs.{needs}
-use Rattle.radiotap_field.proofs.dbm.Statement.{statement}
-use Rattle.radiotap_field.proofs.dbm.Tie as tie
+use Rattle.radiotap_dbm.proofs.read.Statement.{statement}
+use Rattle.radiotap_dbm.proofs.read.Tie as tie
 
 field-requires : tie.Need-field-requires
 field-requires c κs = search needs
@@ -57,8 +57,8 @@ returns-4 c =
     ∙ value-at (a .edition) s (a .number) _ shown
     ∙ sym (ap dbmOf shown)
 
-pub dbm-spec : {M : Type 1} → statement M
-dbm-spec =
+pub read-spec : {M : Type 1} → statement M
+read-spec =
     tie.close
     (tie.spec
     field-requires
