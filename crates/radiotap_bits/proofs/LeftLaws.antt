@@ -187,10 +187,10 @@ both-not true true e h = refl
 both-not true false e h = sym e
 both-not false u e h = let z : _≡_ {A = ℕ} 0 1 = cc in absurd (omega arith)
 
-first-set : (t u : Bool) → (t && not u) ≡ true → (t ≡ true) × (u ≡ false)
-first-set true true e = let z : _≡_ {A = ℕ} 0 1 = cc in absurd (omega arith)
-first-set true false e = (refl, refl)
-first-set false u e = let z : _≡_ {A = ℕ} 0 1 = cc in absurd (omega arith)
+pub and-not-true : (t u : Bool) → (t && not u) ≡ true → (t ≡ true) × (u ≡ false)
+and-not-true true true e = let z : _≡_ {A = ℕ} 0 1 = cc in absurd (omega arith)
+and-not-true true false e = (refl, refl)
+and-not-true false u e = let z : _≡_ {A = ℕ} 0 1 = cc in absurd (omega arith)
 
 module _ (word known : ℕ) where
   -- the bits of a word that carry a field, those of them that are known, and the others
@@ -221,7 +221,7 @@ module _ (word known : ℕ) where
       }
     where
       set : stop < wordBits → (bitSet fields stop ≡ true) × (bitSet known stop ≡ false)
-      set h = first-set (bitSet fields stop) (bitSet known stop) (sym (without-bit fields known stop) ∙ trailing-set wordBits unknown h)
+      set h = and-not-true (bitSet fields stop) (bitSet known stop) (sym (without-bit fields known stop) ∙ trailing-set wordBits unknown h)
 
   unknown-small : unknown < 2 ^ wordBits
   unknown-small =

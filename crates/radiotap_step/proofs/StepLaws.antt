@@ -1,7 +1,7 @@
 -- Where a step's search for the next field stands, and how each finding carries it on or ends it.
 -- Assumes nothing.
 use Prim.Native.Nat.{ℕ, zero, suc, _+_, _-_, _*_, _≤_, _<_}
-use mathlib.Core.Path.{_≡_, refl, ap, _∙_, subst}
+use mathlib.Core.Path.{_≡_, refl, sym, ap, _∙_, subst}
 use mathlib.Core.Bool.{Bool, true, false, cond, _||_}
 use mathlib.Core.List.{List, []}
 use native.Mathlib.Omega.{arith}
@@ -14,7 +14,7 @@ use Rattle.octets.specs.Numbers.{little, numberAt}
 use Rattle.octets.specs.Parts.{part}
 use Rattle.radiotap_rules.specs.declared.Cursor.{Cursor}
 use Rattle.radiotap_rules.specs.Rules.{Rules, rowOf, knows}
-use Rattle.radiotap_rules.specs.Reading.{fieldPast, wordBits, wordAt, bitAt, bitSet, present, nothing, unknownHere, field, meaning, aligned, ended}
+use Rattle.radiotap_rules.specs.Reading.{fieldPast, wordBits, wordAt, bitAt, rowNumber, bitSet, present, Meaning, nothing, unknownHere, field, meaning, aligned, ended}
 use Rattle.radiotap_rules.specs.Steps.{wordsFor, wordsOf, refusedStep, over, met, metMeaning, metFrom, stepOf}
 use Rattle.radiotap_rules.specs.Answers.{unknownField, lies, layOf}
 use Rattle.radiotap_bits.specs.Bits.{NextSet}
@@ -26,6 +26,10 @@ word-of : (s : List ℕ) (c : Cursor) (i n k : ℕ) → k < n
 word-of s c i zero k h = absurd (omega arith)
 word-of s c i (suc n) zero h = let e : i + 0 ≡ i = omega arith in rw e
 word-of s c i (suc n) (suc k) h = let e : i + suc k ≡ suc i + k = omega arith in rw e (word-of s c (suc i) n k (omega arith))
+
+-- the row of a position is that of its bit
+number-bit : (words : List ℕ) (q : ℕ) → rowNumber words q ≡ bitAt q
+number-bit words q = refl
 
 -- a position whose bit is clear, or is 29 or 31, carries no field
 clear-nothing : (rules : Rules) (edition : ℕ) (words : List ℕ) (q : ℕ) → present words q ≡ false → meaning rules edition words q ≡ nothing
@@ -42,7 +46,7 @@ bare rules edition words q e = go (present words q)
         nothing
         (cond (eqb (bitAt q) 30)
         unknownHere
-        (cond (knows rules edition (bitAt q)) (field (rowOf rules (bitAt q))) unknownHere)))
+        (cond (knows rules edition (rowNumber words q)) (field (rowOf rules (rowNumber words q))) unknownHere)))
         nothing
         ≡ nothing
     go true = rw e
@@ -50,15 +54,17 @@ bare rules edition words q e = go (present words q)
 
 -- a set bit, neither 29 nor 31, is a field that the edition knows or a stop, also bit 30 where the edition does not know it
 known-or-stop : (rules : Rules) (edition : ℕ) (words : List ℕ) (q : ℕ) → present words q ≡ true
-    → (eqb (bitAt q) 29 || eqb (bitAt q) 31) ≡ false → knows rules edition 30 ≡ false
-    → meaning rules edition words q ≡ cond (knows rules edition (bitAt q)) (field (rowOf rules (bitAt q))) unknownHere
+    → (eqb (bitAt q) 29 || eqb (bitAt q) 31) ≡ false → (bitAt q ≡ 30 → knows rules edition (rowNumber words q) ≡ false)
+    → meaning rules edition words q ≡ cond (knows rules edition (rowNumber words q)) (field (rowOf rules (rowNumber words q))) unknownHere
 unfolding meaning
 known-or-stop rules edition words q here other thirty = rw (here, other) (go (eqb (bitAt q) 30) refl)
   where
+    by-row : Bool → Meaning
+    by-row k = cond k (field (rowOf rules (rowNumber words q))) unknownHere
+
     go : (t : Bool) → eqb (bitAt q) 30 ≡ t
-        → cond t unknownHere (cond (knows rules edition (bitAt q)) (field (rowOf rules (bitAt q))) unknownHere)
-        ≡ cond (knows rules edition (bitAt q)) (field (rowOf rules (bitAt q))) unknownHere
-    go true e = rw (eqb-true (bitAt q) 30 e, thirty)
+        → cond t unknownHere (by-row (knows rules edition (rowNumber words q))) ≡ by-row (knows rules edition (rowNumber words q))
+    go true e = sym (ap by-row (thirty (eqb-true (bitAt q) 30 e)))
     go false e = refl
 
 -- positions that carry no field are passed
@@ -181,6 +187,7 @@ module _ (rules : Rules) (edition : ℕ) (s : List ℕ) (c : Cursor) where
           let q = wordBits * wordAt position + bit in
           let w : wordAt q ≡ wordAt position = omega arith in
           let b : bitAt q ≡ bit = omega arith in
+          let number : rowNumber (wordsOf s c) q ≡ bitAt q = number-bit (wordsOf s c) q in
           let left : wordBits * c .words - q ≡ suc (wordBits * c .words - suc q) = omega arith in
           let held : getD (wordsOf s c) (wordAt q) 0 ≡ bits = ap (λ (k : ℕ). getD (wordsOf s c) k 0) w ∙ r .word inside in
           let here : present (wordsOf s c) q ≡ true = ap (λ (k : ℕ). bitSet k (bitAt q)) held ∙ ap (bitSet bits) b ∙ set in
@@ -188,19 +195,20 @@ module _ (rules : Rules) (edition : ℕ) (s : List ℕ) (c : Cursor) where
           passes bit low (omega arith) none
           ∙ ap (λ (k : ℕ). metFrom rules edition s c (wordsOf s c) k q) left
           ∙ ap (metMeaning s c (wordsOf s c) q (metFrom rules edition s c (wordsOf s c) (wordBits * c .words - suc q) (suc q)))
-          (known-or-stop rules edition (wordsOf s c) q here bare-not thirty)
-          ∙ laid-at q (knows rules edition (bitAt q))
+          (known-or-stop rules edition (wordsOf s c) q here bare-not (λ e. ap (knows rules edition) (number ∙ e) ∙ thirty))
+          ∙ laid-at q (rowNumber (wordsOf s c) q) (knows rules edition (rowNumber (wordsOf s c) q))
+          ∙ ap (λ (n : ℕ). metLaid s c (wordAt q) (bitAt q) (getD (wordsOf s c) (wordAt q) 0) (layOf rules edition n (c .at))) number
           ∙ ap (λ (k : ℕ). metLaid s c k (bitAt q) (getD (wordsOf s c) (wordAt q) 0) (layOf rules edition (bitAt q) (c .at))) w
           ∙ ap (λ (k : ℕ). metLaid s c (wordAt position) (bitAt q) k (layOf rules edition (bitAt q) (c .at))) held
           ∙ ap (λ (k : ℕ). metLaid s c (wordAt position) k bits (layOf rules edition k (c .at))) b
         where
-          laid-at : (q : ℕ) (k : Bool)
+          laid-at : (q n : ℕ) (k : Bool)
               → metMeaning s c (wordsOf s c) q (metFrom rules edition s c (wordsOf s c) (wordBits * c .words - suc q) (suc q))
-              (cond k (field (rowOf rules (bitAt q))) unknownHere)
+              (cond k (field (rowOf rules n)) unknownHere)
               ≡ metLaid s c (wordAt q) (bitAt q) (getD (wordsOf s c) (wordAt q) 0)
-              (cond k (lies (aligned (rowOf rules (bitAt q) .alignment) (c .at)) (rowOf rules (bitAt q) .size)) unknownField)
-          laid-at q true = let e : wordBits * wordAt q + bitAt q + 1 ≡ suc q = omega arith in rw e
-          laid-at q false = refl
+              (cond k (lies (aligned (rowOf rules n .alignment) (c .at)) (rowOf rules n .size)) unknownField)
+          laid-at q n true = let e : wordBits * wordAt q + bitAt q + 1 ≡ suc q = omega arith in rw e
+          laid-at q n false = refl
 
       -- by the next set bit of the word that is held
       module _ {bit : ℕ} (n : NextSet bits (bitAt position) bit) where

@@ -21,16 +21,11 @@ use Rattle.radiotap_table.specs.declared.Span.{Span}
 use Rattle.radiotap_table.specs.Says.{SpannedAs}
 use Rattle.radiotap_bits.specs.Bits.{KnownBits, bare, carriesField, LeftFrom, StopsAt}
 use Rattle.radiotap_table.proofs.RowLaws.{lay-near, lay-unknown, span-lies}
-use Rattle.radiotap_bits.proofs.LeftLaws.{first-small, first-low, first-below, first-carries, first-between, left-next, left-none}
+use Rattle.radiotap_bits.proofs.LeftLaws.{and-not-true, first-small, first-low, first-below, first-carries, first-between, left-next, left-none}
 use Rattle.radiotap_step.specs.Met.{metLaid}
 use Rattle.radiotap_step.proofs.StepLaws.{Reached, starts, onward, meets, laid-inside, laid-past}
 
--- a bit that carries a field is set and not bare, and any other is clear or bare
-carries-set : (t u : Bool) → (t && not u) ≡ true → (t ≡ true) × (u ≡ false)
-carries-set true true e = let z : _≡_ {A = ℕ} 0 1 = cc in absurd (omega arith)
-carries-set true false e = (refl, refl)
-carries-set false u e = let z : _≡_ {A = ℕ} 0 1 = cc in absurd (omega arith)
-
+-- a bit that carries no field is clear or bare
 carries-none : (t u : Bool) → (t && not u) ≡ false → (t ≡ false) ⊎ (u ≡ true)
 carries-none true true e = inr refl
 carries-none true false e = inl e
@@ -88,7 +83,7 @@ module _ (edition : ℕ) (s : List ℕ) (known : ℕ) where
     meets-bit : (bit : ℕ) → n .from ≤ bit → bit < wordBits → ((b : ℕ) → n .from ≤ b → b < bit → carriesField (n .bits) b ≡ false)
         → carriesField (n .bits) bit ≡ true → stepOf ourRules edition s c ≡ metLaid s c index bit (n .bits) (layOf ourRules edition bit (c .at))
     meets-bit bit low high between carries =
-        let set = carries-set (bitSet (n .bits) bit) (bare bit) carries in
+        let set = and-not-true (bitSet (n .bits) bit) (bare bit) carries in
         meets ourRules edition s c (n .reached) (omega (arith, here)) bit (omega (arith, n .place, n .inside)) high
         (λ b from below. carries-none (bitSet (n .bits) b) (bare b) (between b (omega (arith, n .place, n .inside)) below))
         (set .0) (set .1) refl
