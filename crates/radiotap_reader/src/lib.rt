@@ -6,10 +6,10 @@ ghost use Rattle.radiotap_rules.specs.Table.{ourRules};
 ghost use Rattle.radiotap_rules.specs.Reading.{reading, fieldOf};
 ghost use Rattle.radiotap_rules.specs.Steps.{shownBy};
 ghost use Rattle.radiotap_step.specs.Says.{stepSays, StepSized};
-ghost use Rattle.radiotap_place.specs.Places.{freshPlace, answerAt, movedOn};
+ghost use Rattle.radiotap_place.specs.Places.{answerAt};
 ghost use Rattle.radiotap_place.specs.Says.{placeSays};
 ghost use Rattle.radiotap_reader.specs.Reader.{answerAfter};
-ghost use Rattle.radiotap_reader.specs.Says.{StaysSays};
+ghost use Rattle.radiotap_reader.specs.Says.{NewReader, readerAnswer, MovedReader, StaysSays};
 use radiotap_place::Place;
 use radiotap_step::Step;
 
@@ -22,7 +22,7 @@ pub struct FieldReader<'a> {
 
 // A reader over octets in an edition, before the first field.
 pub fn new<'a>(header: &'a [u8], edition: u32) -> FieldReader<'a>
-    ensures { λ r. ⌜ (r .header ≡ header .entry) × (r .edition ≡ edition) × (placeSays (r .place) ≡ freshPlace ourRules edition (now (header .entry))) ⌝ }
+    ensures { λ r. ⌜ NewReader (header .entry) edition r ⌝ }
 {
     let place = radiotap_place::fresh(header, edition);
     FieldReader {
@@ -34,7 +34,7 @@ pub fn new<'a>(header: &'a [u8], edition: u32) -> FieldReader<'a>
 
 // What a reader answers next.
 pub fn next<'a>(reader: FieldReader<'a>) -> Step
-    ensures { λ r. ⌜ stepSays (now (reader .entry .header)) r ≡ answerAt ourRules (reader .entry .edition) (now (reader .entry .header)) (placeSays (reader .entry .place)) ⌝ }
+    ensures { λ r. ⌜ stepSays (now (reader .entry .header)) r ≡ readerAnswer (reader .entry) ⌝ }
     ensures { λ r. ⌜ StepSized r ⌝ }
 {
     radiotap_place::answer_at(reader.header, reader.edition, reader.place)
@@ -42,7 +42,7 @@ pub fn next<'a>(reader: FieldReader<'a>) -> Step
 
 // A reader moved on behind what it answers next.
 pub fn moved<'a>(reader: FieldReader<'a>) -> FieldReader<'a>
-    ensures { λ r. ⌜ (r .header ≡ reader .entry .header) × (r .edition ≡ reader .entry .edition) × (placeSays (r .place) ≡ movedOn ourRules (reader .entry .edition) (now (reader .entry .header)) (placeSays (reader .entry .place))) ⌝ }
+    ensures { λ r. ⌜ MovedReader (reader .entry) r ⌝ }
 {
     let place = radiotap_place::after(reader.header, reader.edition, reader.place);
     FieldReader {

@@ -18,7 +18,7 @@ use contract.Running.{givenOf, tables, tablesOf}
 use types.Kit.{Given, ‵, raw, _⊛_, ⋆, some, later, _$_, _∵_, !, qed, by, move, use1, use2, split, join, pick, fsplit, fjoin, suffices, frame, await, done}
 use types.Part.{agg}
 use types.Run.{look, init, forget, stop, from, load, and-then, no-more, assigns, land, returns, enter, alloc1, alloc0, params1, pass1, pass0, free1, free0}
-use sound.WpLaws.{FmC, fmOf, WpFn-mono}
+use sound.WpLaws.{FmC, fmOf}
 use denote.RattleType.{owns}
 use denote.Laws.{Is, shows}
 use denote.Plain.{uint-vals, uint-tells, uint-makes}
@@ -33,9 +33,9 @@ use denote.Struct.Rest.{own-shut}
 use denote.Triple.Statement.{Contract, Triple}
 use denote.Triple.Call.{calls-at}
 use denote.Triple.Entry.{Vals, onEntry}
-use denote.Triple.Spec.{Meets, tripleOf}
+use denote.Triple.Spec.{tripleOf}
 use denote.Triple.Table.{entered, cited}
-use denote.Triple.Walked.{Stays, stay-none, stay-none-slice, walkOf, AllGo, goes-none, goes-none-slice, Walks, ends-at, walked, walk-meets}
+use denote.Triple.Walked.{Stays, stay-none, stay-none-slice, walkOf, AllGo, goes-none, goes-none-slice, Walks, ends-at, walked}
 use denote.Exit.{yes}
 use denote.Triple.Clauses.{ensured, lasts}
 use Rattle.radiotap_rules.specs.Table.{ourRules}
@@ -47,7 +47,7 @@ use Rattle.radiotap_place.specs.Places.{answerAt}
 use Rattle.radiotap_place.specs.Says.{placeSays}
 use Rattle.radiotap_place.specs.declared.Place.{Place}
 use Rattle.radiotap_reader.specs.declared.FieldReader.{FieldReader}
-use Rattle.radiotap_reader.proofs.Held.{B, D, L, held, sliced, placed, reader-is, says-both}
+use Rattle.radiotap_reader.proofs.Held.{B, D, L, held, sliced, placed, reader-is, says-both, walks-meet}
 use Rattle.radiotap_place.proofs.Place as P
 use Rattle.radiotap_place.proofs.Place.Laws as P′
 use Rattle.radiotap_reader.proofs.next as next
@@ -145,16 +145,13 @@ module _ {M : Type 1} (𝓤 : URA M) (H : Heap 𝓤) (A : Atoms 𝓤) (W : Given
   stay : AllGo 𝓤 H A W 1 (asked.signature .params) (asked.ended .kept) stayed
   stay = (goes-none-slice 𝓤 H A W 1 (0 ∷ []) tt (plain (λ _. u8)) yes, (goes-none 𝓤 H A W 1 (λ _. u32) yes (λ κs x f. refl), (goes-none 𝓤 H A W 1 (λ _. P.the-row) yes (λ κs x f. refl), tt)))
 
-asked-meets : {M : Type 1} (𝓤 : URA M) (H : Heap 𝓤) (A : Atoms 𝓤) (W : Given 𝓤 H A) (mem : Memory → SProp 𝓤) (run : Routine → Fun 𝓤) (𝓣 : Tables 𝓤 H)
-    → Triple 𝓤 (𝓣 .C #next) (Next 𝓤 H A mem run)
-    → Meets 𝓤 H A asked.signature (WpFn 𝓤 H (𝓣 .C) (𝓣 .Λ) code.function) (asked.spec 𝓤 H A mem run)
-asked-meets 𝓤 H A W mem run 𝓣 known = walk-meets 𝓤 H A asked.ended stayed W (stay 𝓤 H A W mem run) (asked.clauses 𝓤 H A mem run) (WpFn 𝓤 H (𝓣 .C) (𝓣 .Λ) code.function) (WpFn-mono 𝓤 H (W .laws) 𝓣 code.function)
-    (asked-walks 𝓤 H A W mem run (𝓣 .C) (𝓣 .Λ) (fmOf 𝓤 H (W .laws) 𝓣) known)
-
 pub asked-spec : {M : Type 1} → stated.statement M
 unfolding code.routine tablesOf
 asked-spec 𝓤 H 𝓜 𝓖 𝓡 =
+    let W : Given 𝓤 H (𝓖 .A) = givenOf 𝓤 H 𝓜 𝓖 in
+    let 𝓣 : Tables 𝓤 H = tablesOf 𝓤 H 𝓜 (tables 𝓤 H 𝓜 𝓡 code.env) in
     entered 𝓤 H (tripleOf 𝓤 H (𝓖 .A) asked.signature (asked.spec 𝓤 H (𝓖 .A) (𝓜 .mem) (𝓡 .run)))
     (tables 𝓤 H 𝓜 𝓡 code.env .C) (tables 𝓤 H 𝓜 𝓡 code.env .Λ) #asked code.function (code.unfolded 𝓤 H 𝓜 𝓡)
-    (asked-meets 𝓤 H (𝓖 .A) (givenOf 𝓤 H 𝓜 𝓖) (𝓜 .mem) (𝓡 .run) (tablesOf 𝓤 H 𝓜 (tables 𝓤 H 𝓜 𝓡 code.env))
-    (cited 𝓤 H (Next 𝓤 H (𝓖 .A) (𝓜 .mem) (𝓡 .run)) 𝓜 𝓡 code.env #next next-def.routine code.calls-radiotap-reader·next (next-thm.met 𝓤 H 𝓜 𝓖 𝓡)))
+    (walks-meet 𝓤 H (𝓖 .A) W asked.ended stayed (stay 𝓤 H (𝓖 .A) W (𝓜 .mem) (𝓡 .run)) (asked.clauses 𝓤 H (𝓖 .A) (𝓜 .mem) (𝓡 .run)) code.function 𝓣
+    (asked-walks 𝓤 H (𝓖 .A) W (𝓜 .mem) (𝓡 .run) (𝓣 .C) (𝓣 .Λ) (fmOf 𝓤 H (W .laws) 𝓣)
+    (cited 𝓤 H (Next 𝓤 H (𝓖 .A) (𝓜 .mem) (𝓡 .run)) 𝓜 𝓡 code.env #next next-def.routine code.calls-radiotap-reader·next (next-thm.met 𝓤 H 𝓜 𝓖 𝓡))))
