@@ -10,8 +10,9 @@ use lib.Signed.{ltZ}
 use mir.Syntax.{w64}
 use mir.Val.{SFits, toZ}
 use mir.Facts.{toZ-ofZ, toZ-pos}
+use Rattle.twos_complement.proofs.Signs.{fits-as, kept}
 use Rattle.capture_time.specs.Time.{unixEpoch, perSecond, lastMicrosecond, fieldOf, unwritable}
-use Rattle.capture_time.proofs.Signed.{sub-down, sub-under, held, fits-as, kept}
+use Rattle.capture_time.proofs.Signed.{sub-down, sub-under, held}
 use Rattle.capture_time.proofs.Laws.{negative-seconds, field-negative, difference-fits, writable}
 
 -- u microseconds after −(n + 1) seconds

@@ -10,9 +10,10 @@ use lib.IntN.{ℤ, pos, negsuc, negℤ, subℕ, _+ℤ_, _*ℤ_, +ℤ-assoc}
 use lib.Signed.{ltZ}
 use mir.Syntax.{w64}
 use mir.Val.{SFits, ofZ}
+use Rattle.twos_complement.proofs.Signs.{fits-as}
 use Rattle.refusals.specs.Refusals.{refused, given}
 use Rattle.capture_time.specs.Time.{inexpressible, unixEpoch, perSecond, lastMicrosecond, signedLimit, unixMicroseconds, timeOf, belowRange, aboveRange, leavesRange, reading, fieldOf, unwritable, writing}
-use Rattle.capture_time.proofs.Signed.{sub-down, sub-under, fits-as}
+use Rattle.capture_time.proofs.Signed.{sub-down, sub-under}
 
 -- ---- a difference and the range
 

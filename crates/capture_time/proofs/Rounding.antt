@@ -10,8 +10,9 @@ use mir.Syntax.{w32, w64}
 use mir.Val.{Fits, SFits}
 use mir.Facts.{toZ-ofZ}
 use mir.ValLaws.{sfits-le}
+use Rattle.twos_complement.proofs.Signs.{kept}
 use Rattle.capture_time.specs.Time.{perSecond, lastMicrosecond, secondsOf, microsecondsOf}
-use Rattle.capture_time.proofs.Signed.{sub-down, held, kept}
+use Rattle.capture_time.proofs.Signed.{sub-down, held}
 
 -- a quotient that is a second too late, with a remainder below zero
 pub record RoundedUp (q r d : ℤ) : Type 0 where

@@ -1,20 +1,12 @@
--- Laws of signed decimal text: the sign and then the digits are one text, and a number by its sign.
--- Assumes nothing.
-use Prim.Native.Nat.{ℕ, _+_, _^_, _≤_, _<_}
+-- Laws of signed decimal text: the sign and then the digits are one text.
+use Prim.Native.Nat.{ℕ, _+_, _≤_, _<_}
 use mathlib.Core.Path.{_≡_, refl, sym, ap, _∙_}
 use mathlib.Core.List.{List, [], _∷_}
 use native.Mathlib.Omega.{arith}
 use native.Mathlib.Numerals.{add-one}
 use lib.ListN.{length}
-use lib.IntN.{ℤ, pos, negsuc}
-use lib.Signed.{ltZ}
-use mathlib.Core.Bool.{true}
-use mir.Syntax.{w64}
-use mir.Val.{SFits, toZ, ofZ}
-use mir.Facts.{toZ-ofZ}
-use borrow.Author.Tests.{ltb-true}
+use lib.IntN.{negsuc}
 use Rattle.octets.specs.Parts.{put, splice}
-use Rattle.octets.proofs.Signs.{Negative}
 use Rattle.octets.proofs.PartLaws.{put-room, put-none, put-next}
 use Rattle.text.specs.Decimal.{minus, decimal, signedDecimal}
 
@@ -44,15 +36,3 @@ module _ (out : List ℕ) (at n : ℕ) where
   pub no-sign-nor-digits : length out < at + (length (decimal (n + 1)) + 1) → out ≡ put out at (signedDecimal (negsuc n))
   no-sign-nor-digits h =
       sym (put-none out at (minus ∷ decimal (n + 1)) (omega arith)) ∙ ap (put out at) (sym (negative-text n))
-
--- a negative number is −(k + 1), where k is its bits complemented
-pub negative-is : (z : ℤ) → SFits w64 z → ltZ (toZ w64 (ofZ w64 z)) (pos 0) ≡ true → (b : Negative w64 z)
-    → (z ≡ negsuc (b .rest)) × (b .rest < 2 ^ 63)
-negative-is (pos n) f below b =
-    let h : ltZ (pos n) (pos 0) ≡ true = rw (toZ-ofZ {z = pos n} f) at below in
-    let none : n < 0 = ltb-true n 0 h in
-    absurd (omega arith)
-negative-is (negsuc k) f below b =
-    let small : k < 2 ^ 63 = f .sfits in
-    let same : b .rest ≡ k = omega (arith, b .bits-of, b .fits) in
-    (ap negsuc (sym same), omega arith)

@@ -7,9 +7,10 @@ use lib.IntN.{ℤ, negsuc, _+ℤ_}
 use mir.Syntax.{w64}
 use mir.Val.{SFits}
 use mir.Facts.{toZ-ofZ}
+use Rattle.twos_complement.proofs.Signs.{fits-as, kept}
 use Rattle.refusals.specs.Refusals.{refused, given}
 use Rattle.capture_time.specs.Time.{unixEpoch, unixMicroseconds, timeOf}
-use Rattle.capture_time.proofs.Signed.{held, fits-as, kept, held-below}
+use Rattle.capture_time.proofs.Signed.{held, held-below}
 use Rattle.capture_time.proofs.Laws.{reading-refused, reading-given, unix-fits}
 use Rattle.capture_time.proofs.read_time.Statement.{statement}
 use Rattle.capture_time.proofs.read_time.Tie as tie

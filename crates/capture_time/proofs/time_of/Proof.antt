@@ -2,9 +2,9 @@
 use mathlib.Core.Path.{ap₂}
 use lib.Dec.{lit<}
 use lib.IntN.{ℤ, natAbs}
+use Rattle.twos_complement.proofs.Signs.{fits-as, kept, casts}
 use Rattle.refusals.specs.Refusals.{given}
 use Rattle.capture_time.specs.Time.{at, microsecondsOf}
-use Rattle.capture_time.proofs.Signed.{fits-as, kept, casts}
 use Rattle.capture_time.proofs.Rounding.{RoundedUp, RoundedDown, quotient, remainder, quotient-fits, seconds-fit, microseconds-fit, microseconds-cast, up, down}
 use Rattle.capture_time.proofs.time_of.Statement.{statement}
 use Rattle.capture_time.proofs.time_of.Tie as tie

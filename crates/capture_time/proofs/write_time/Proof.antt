@@ -3,9 +3,9 @@ use mathlib.Core.Path.{_≡_, ap, ap₂, sym, _∙_}
 use borrow.Author.Needs.{needs}
 use lib.IntN.{ℤ}
 use mir.Facts.{toZ-ofZ}
+use Rattle.twos_complement.proofs.Signs.{kept}
 use Rattle.refusals.specs.Refusals.{refused, given}
 use Rattle.capture_time.specs.Time.{fieldOf, unwritable}
-use Rattle.capture_time.proofs.Signed.{kept}
 use Rattle.capture_time.proofs.Laws.{writing-refused, writing-given, writable}
 use Rattle.capture_time.proofs.write_time.Statement.{statement}
 use Rattle.capture_time.proofs.write_time.Tie as tie
