@@ -37,19 +37,19 @@ pub fn read(s: &[u8]) -> HeaderAnswer
 fn judge(s: &[u8]) -> HeaderAnswer
     ensures { λ r. ⌜ headerSays r ≡ headerJudged (now (s .entry)) ⌝ }
 {
-    if octets::be64(s, 0) != IDENTIFICATION_OCTETS {
+    if number_at::be64(s, 0) != IDENTIFICATION_OCTETS {
         return HeaderAnswer::Refused(Refusal {
             number: refusals::IDENTIFICATION,
             place: 0,
         });
     }
-    if octets::be32(s, 8) != VERSION_NUMBER {
+    if number_at::be32(s, 8) != VERSION_NUMBER {
         return HeaderAnswer::Refused(Refusal {
             number: refusals::VERSION,
             place: 8,
         });
     }
-    let datalink = octets::be32(s, 12);
+    let datalink = number_at::be32(s, 12);
     if served(datalink) {
         HeaderAnswer::Accepted(datalink)
     } else {

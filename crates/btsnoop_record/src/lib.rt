@@ -48,11 +48,11 @@ fn numbers(s: &[u8], place: usize) -> Numbers
     ensures { λ r. ⌜ r ≡ numbersAt (now (s .entry)) place ⌝ }
 {
     Numbers {
-        original: octets::be32(s, place),
-        included: octets::be32(s, place + 4),
-        flags: octets::be32(s, place + 8),
-        drops: octets::be32(s, place + 12),
-        time: twos_complement::signed64(octets::be64(s, place + 16)),
+        original: number_at::be32(s, place),
+        included: number_at::be32(s, place + 4),
+        flags: number_at::be32(s, place + 8),
+        drops: number_at::be32(s, place + 12),
+        time: twos_complement::signed64(number_at::be64(s, place + 16)),
     }
 }
 

@@ -1,6 +1,6 @@
 -- Case laws of the file header, and that its identification octets may be compared as one number.
 -- Assumes nothing.
-use Prim.Native.Nat.{ℕ, zero, suc, _+_, _≤_, _<_}
+use Prim.Native.Nat.{ℕ, _≤_, _<_}
 use mathlib.Core.Path.{_≡_, refl, sym, ap, _∙_}
 use mathlib.Core.Bool.{true, false}
 use mathlib.Core.List.{List}
@@ -11,8 +11,8 @@ use native.Mathlib.Omega.{arith}
 use native.Mathlib.Nat.{lt-of-not-le}
 use native.Mathlib.Decide.{decLe}
 use Rattle.refusals.specs.Refusals.{refused, given, shortHeader, identification, version, datalink}
-use Rattle.octets.specs.Numbers.{Order, big, number, octetsOf, octetsAfter, octetsAt, numberAt, Octets}
-use Rattle.octets.proofs.Laws.{write-after-read}
+use Rattle.octets.specs.Numbers.{Order, big, number, octetsOf, octetsAt, numberAt, Octets}
+use Rattle.octets.proofs.Laws.{write-after-read, all-octets, octets-at}
 use Rattle.btsnoop_rules.specs.Header.{headerLength, identificationOctets, versionNumber, served, headerJudged, headerAt}
 use Rattle.btsnoop_rules.proofs.Orders.{header-judged-exactly, header-read-exactly}
 
@@ -20,10 +20,6 @@ use Rattle.btsnoop_rules.proofs.Orders.{header-judged-exactly, header-r
 same-number : (o : Order) (xs ys : List ℕ) → Octets xs → Octets ys → length xs ≡ length ys → number o xs ≡ number o ys → xs ≡ ys
 same-number o xs ys hx hy l e =
     sym (write-after-read o xs hx) ∙ ap (λ (w : ℕ). octetsOf o w (number o xs)) l ∙ ap (octetsOf o (length ys)) e ∙ write-after-read o ys hy
-
-octets-after : (s : List ℕ) → ((i : ℕ) → getD s i 0 < 256) → (at after n : ℕ) → Octets (octetsAfter s at after n)
-octets-after s h at after zero = tt
-octets-after s h at after (suc n) = (h (at + after), octets-after s h at (suc after) n)
 
 -- the identification octets, compared as one number
 abbrev pub identificationNumber : ℕ
@@ -40,7 +36,7 @@ module _ (s : List ℕ) where
   pub identified : ((i : ℕ) → getD s i 0 < 256) → numberAt big 8 s 0 ≡ identificationNumber → octetsAt s 0 8 ≡ identificationOctets
   unfolding numberAt
   identified h e =
-      same-number big (octetsAt s 0 8) identificationOctets (octets-after s h 0 0 8) identification-octets refl
+      same-number big (octetsAt s 0 8) identificationOctets (octets-at s 0 8 (all-octets s h)) identification-octets refl
       (e ∙ sym is-identification)
 
   pub not-identified : (numberAt big 8 s 0 ≡ identificationNumber → ⊥) → octetsAt s 0 8 ≡ identificationOctets → ⊥

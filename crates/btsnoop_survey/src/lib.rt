@@ -91,8 +91,8 @@ fn judge(s: &[u8], place: usize) -> Step
         });
     }
     // Both are widened where they are read: to do so behind the test would delay each step.
-    let included = octets::be32(s, place + 4) as usize;
-    if (octets::be32(s, place) as usize) < included {
+    let included = number_at::be32(s, place + 4) as usize;
+    if (number_at::be32(s, place) as usize) < included {
         return Step::Refused(Refusal {
             number: refusals::INCLUDED_LENGTH,
             place: place + 4,

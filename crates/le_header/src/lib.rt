@@ -36,8 +36,8 @@ fn values(s: &[u8]) -> Values
         signal: twos_complement::signed8(octets::octet(s, 1, 0)),
         noise: twos_complement::signed8(octets::octet(s, 2, 0)),
         offences: octets::octet(s, 3, 0),
-        reference: octets::le32(s, 4),
-        flags: octets::le16(s, 8),
+        reference: number_at::le32(s, 4),
+        flags: number_at::le16(s, 8),
     }
 }
 

@@ -4,11 +4,11 @@ use Prim.Native.Nat.{ℕ, zero, suc, _+_, _-_, _≤_, _<_}
 use mathlib.Core.Path.{_≡_, refl, sym, ap, _∙_}
 use mathlib.Core.Bool.{Bool, cond}
 use mathlib.Core.Logic.{_⊎_, inl, inr}
-use mathlib.Core.List.{List, [], _++_, append-assoc}
+use mathlib.Core.List.{List, [], _++_, append-assoc, append-nil}
 use native.Mathlib.Omega.{arith}
-use native.Mathlib.Nat.{add-suc, lt-of-not-le}
+use native.Mathlib.Nat.{add-zero, add-suc, lt-of-not-le}
 use native.Mathlib.Decide.{decLe}
-use lib.ListN.{length, take, drop, getD, List·getD-append, length-append, length-drop, drop-of-length-le}
+use lib.ListN.{length, take, drop, getD, List·getD-append, length-append, length-drop, drop-of-length-le, take-append-drop}
 use lib.Seq.{drop-cons, take-all, take-nil, take-at, drop-at, take-length, drop-append-add, length-take-le, drop-drop, getD-append-add, getD-take, getD-drop, paste, length-paste}
 use borrow.Author.Tests.{le-leb, lt-leb}
 use Rattle.octets.specs.Numbers.{octetsAfter}
@@ -49,6 +49,11 @@ splice-paste out at xs = ap (λ (ys : List ℕ). take at out ++ ys ++ drop (at +
 -- an output keeps its length
 pub length-splice : (out : List ℕ) (at : ℕ) (xs : List ℕ) → at + length xs ≤ length out → length (splice out at xs) ≡ length out
 length-splice out at xs h = ap length (splice-paste out at xs) ∙ length-paste out at xs (length xs) h (omega arith)
+
+-- no octets spliced in leave an output as it was
+pub splice-none : (out : List ℕ) (at : ℕ) → splice out at [] ≡ out
+unfolding splice
+splice-none out at = rw (append-nil (take at out), add-zero at) (take-append-drop at out)
 
 -- before octets that are spliced in, an output is as it was
 pub splice-before : (out : List ℕ) (at : ℕ) (xs : List ℕ) → at ≤ length out → take at (splice out at xs) ≡ take at out

@@ -1,10 +1,8 @@
-// Reading octets, numbers of 16, 32 and 64 bits in both orders, and parts at a place of an input. Every function has
-// an answer for every input: past the end of an input an octet is 0.
+// Reading octets and parts at a place of an input, and whether an output has room. Every function has an answer for
+// every input: past the end of an input an octet is 0.
 ghost use mathlib.Core.Path.{_≡_};
-ghost use mathlib.Core.List.{[], _∷_};
 ghost use Prim.Native.Nat.{_+_};
 ghost use lib.ListN.{getD};
-ghost use Rattle.octets.specs.Numbers.{little, big, number, numberAt};
 ghost use Rattle.octets.specs.Parts.{part as partOf, hasRoom};
 
 // Whether an input or output of a length has room for so many octets from a place on.
@@ -27,102 +25,6 @@ pub fn octet(s: &[u8], at: usize, after: usize) -> u8
         }
     }
     0
-}
-
-// The 16-bit number at a place, most significant octet first.
-pub fn be16(s: &[u8], at: usize) -> u16
-    ensures { λ r. ⌜ r ≡ numberAt big 2 (now (s .entry)) at ⌝ }
-{
-    join16(octet(s, at, 0), octet(s, at, 1))
-}
-
-// The 32-bit number at a place, most significant octet first.
-pub fn be32(s: &[u8], at: usize) -> u32
-    ensures { λ r. ⌜ r ≡ numberAt big 4 (now (s .entry)) at ⌝ }
-{
-    join32(
-        octet(s, at, 0),
-        octet(s, at, 1),
-        octet(s, at, 2),
-        octet(s, at, 3),
-    )
-}
-
-// The 64-bit number at a place, most significant octet first.
-pub fn be64(s: &[u8], at: usize) -> u64
-    ensures { λ r. ⌜ r ≡ numberAt big 8 (now (s .entry)) at ⌝ }
-{
-    join64(
-        octet(s, at, 0),
-        octet(s, at, 1),
-        octet(s, at, 2),
-        octet(s, at, 3),
-        octet(s, at, 4),
-        octet(s, at, 5),
-        octet(s, at, 6),
-        octet(s, at, 7),
-    )
-}
-
-// The 16-bit number at a place, least significant octet first.
-pub fn le16(s: &[u8], at: usize) -> u16
-    ensures { λ r. ⌜ r ≡ numberAt little 2 (now (s .entry)) at ⌝ }
-{
-    join16(octet(s, at, 1), octet(s, at, 0))
-}
-
-// The 32-bit number at a place, least significant octet first.
-pub fn le32(s: &[u8], at: usize) -> u32
-    ensures { λ r. ⌜ r ≡ numberAt little 4 (now (s .entry)) at ⌝ }
-{
-    if has_room(s.len(), at, 4) {
-        join32(s[at + 3], s[at + 2], s[at + 1], s[at + 0])
-    } else {
-        join32(
-            octet(s, at, 3),
-            octet(s, at, 2),
-            octet(s, at, 1),
-            octet(s, at, 0),
-        )
-    }
-}
-
-// The 64-bit number at a place, least significant octet first.
-pub fn le64(s: &[u8], at: usize) -> u64
-    ensures { λ r. ⌜ r ≡ numberAt little 8 (now (s .entry)) at ⌝ }
-{
-    join64(
-        octet(s, at, 7),
-        octet(s, at, 6),
-        octet(s, at, 5),
-        octet(s, at, 4),
-        octet(s, at, 3),
-        octet(s, at, 2),
-        octet(s, at, 1),
-        octet(s, at, 0),
-    )
-}
-
-// The number of two octets, the most significant first.
-fn join16(a: u8, b: u8) -> u16
-    ensures { λ r. ⌜ r ≡ number big (a ∷ b ∷ []) ⌝ }
-{
-    (a as u16) * 256 + b as u16
-}
-
-// The number of four octets, the most significant first.
-fn join32(a: u8, b: u8, c: u8, d: u8) -> u32
-    ensures { λ r. ⌜ r ≡ number big (a ∷ b ∷ c ∷ d ∷ []) ⌝ }
-{
-    (((a as u32) * 256 + b as u32) * 256 + c as u32) * 256 + d as u32
-}
-
-// The number of eight octets, the most significant first.
-fn join64(a: u8, b: u8, c: u8, d: u8, e: u8, f: u8, g: u8, h: u8) -> u64
-    ensures { λ r. ⌜ r ≡ number big (a ∷ b ∷ c ∷ d ∷ e ∷ f ∷ g ∷ h ∷ []) ⌝ }
-{
-    let high = (((a as u64) * 256 + b as u64) * 256 + c as u64) * 256 + d as u64;
-    (((high * 256 + e as u64) * 256 + f as u64) * 256 + g as u64) * 256 + h as u64
 }
 
 // The part of an input of so many octets from a place on, shorter where the input ends before.

@@ -32,7 +32,7 @@ pub fn read(s: &[u8]) -> FixedAnswer
             place: 0,
         });
     }
-    let size = octets::le16(s, 2) as u32;
+    let size = number_at::le16(s, 2) as u32;
     if (size as usize) < FIXED_LENGTH || s.len() < size as usize {
         return FixedAnswer::Refused(Refusal {
             number: RADIOTAP_LENGTH,

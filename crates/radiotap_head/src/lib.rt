@@ -49,7 +49,7 @@ pub fn read(s: &[u8]) -> HeadAnswer
 fn presence(s: &[u8], size: u32) -> HeadAnswer
     ensures { λ r. ⌜ headSays r ≡ headOfWords size (presenceWords (now (s .entry)) size) ⌝ }
 {
-    let first = octets::le32(s, 4);
+    let first = number_at::le32(s, 4);
     let mut word = first;
     let mut words: u8 = 1;
     while (word >> 31) % 2 == 1 {
@@ -61,7 +61,7 @@ fn presence(s: &[u8], size: u32) -> HeadAnswer
         if (size as usize) < end {
             return refused(WORD_PAST, 4);
         }
-        word = octets::le32(s, at);
+        word = number_at::le32(s, at);
         words += 1;
     }
     HeadAnswer::Given(Head { size, words, first })
@@ -89,7 +89,7 @@ fn numbered(s: &[u8], words: u8, number: usize) -> WordAnswer
     ensures { λ r. ⌜ wordSays r ≡ given (cond (ltb number words) (theWord (numberAt little 4 (now (s .entry)) (4 + 4 * number))) noWord) ⌝ }
 {
     if number < words as usize {
-        WordAnswer::Word(octets::le32(s, 4 + 4 * number))
+        WordAnswer::Word(number_at::le32(s, 4 + 4 * number))
     } else {
         WordAnswer::End
     }
@@ -103,7 +103,7 @@ pub fn word_at(s: &[u8], index: u32) -> u32
     if s.len() < at + 4 {
         return 0;
     }
-    octets::le32(s, at)
+    number_at::le32(s, at)
 }
 
 // The cursor at the first position of a header, behind its last presence word.

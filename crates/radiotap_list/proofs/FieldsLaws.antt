@@ -20,7 +20,7 @@ use Rattle.radiotap.specs.Says.{opening}
 use Rattle.radiotap.specs.Outcomes.{outcome, summarised}
 use Rattle.radiotap.proofs.ReadLaws.{opened-head, summary-by}
 use Rattle.radiotap_list.specs.Listing.{roomFor, fieldsBehind, firstFields}
-use Rattle.radiotap_list.proofs.ListLaws.{splice-none}
+use Rattle.octets.proofs.PartLaws.{splice-none}
 
 -- where the steps from a cursor answer as the field numbers of fields do, the first steps meet the first fields
 first-take : (rules : Rules) (edition : ℕ) (s : List ℕ) (e : Ending) (k : ℕ) (c : Cursor) (fs : List Field)
@@ -76,8 +76,8 @@ module _ (edition : ℕ) (s : List ℕ) where
         by x e same = ap into e ∙ same ∙ sym (ap (listedInto out) e)
 
         go : (x : Reading) → reading ourRules edition s ≡ x → into (reading ourRules edition s) ≡ listedInto out (reading ourRules edition s)
-        go (refusedBefore n p) e = by (refusedBefore n p) e (splice-none out)
-        go (refusedAtField w b p) e = by (refusedAtField w b p) e (splice-none out)
+        go (refusedBefore n p) e = by (refusedBefore n p) e (splice-none out 0)
+        go (refusedAtField w b p) e = by (refusedAtField w b p) e (splice-none out 0)
         go (read fs ending frame) e =
             by (read fs ending frame) e
             (ap (λ (gs : List Field). splice out 0 (listed gs))
@@ -90,7 +90,7 @@ module _ (edition : ℕ) (s : List ℕ) where
       pub first-turn : judged ≡ false → out′ ≡ out₀
       first-turn not-yet =
           let none : room′ ≡ 0 = has ∙ ap (room most) not-yet in
-          put ∙ ap (λ (k : ℕ). splice out 0 (listed (firstFields ourRules e s k (firstCursor h)))) none ∙ splice-none out ∙ whole
+          put ∙ ap (λ (k : ℕ). splice out 0 (listed (firstFields ourRules e s k (firstCursor h)))) none ∙ splice-none out 0 ∙ whole
 
       pub last-turn : judged ≡ true → most ≡ length out₀ / 4 → out′ ≡ listedInto out₀ (reading ourRules edition s)
       last-turn yet all =

@@ -8,7 +8,7 @@ use native.Mathlib.Nat.{min-eq-left, min-eq-right}
 use lib.ListN.{length, set, take, length-append}
 use lib.Seq.{sets-eq, take-at}
 use Rattle.octets.specs.Parts.{part, splice}
-use Rattle.octets.proofs.PartLaws.{length-part, length-splice, splice-splice}
+use Rattle.octets.proofs.PartLaws.{length-part, length-splice, splice-none, splice-splice}
 use Rattle.radiotap_rules.specs.declared.Cursor.{Cursor}
 use Rattle.radiotap_rules.specs.Rules.{Rules}
 use Rattle.radiotap_rules.specs.Reading.{Field, Ending}
@@ -26,11 +26,6 @@ store-four out at a b c d h =
     let two : at + 2 ≡ suc (suc at) = omega arith in
     let three : at + 3 ≡ suc (suc (suc at)) = omega arith in
     rw (one, two, three) (sets-eq (a ∷ b ∷ c ∷ d ∷ []) out at h)
-
--- nothing put into a list leaves it
-pub splice-none : (out : List ℕ) → splice out 0 [] ≡ out
-unfolding splice
-splice-none out = refl
 
 -- a field has four numbers
 listed-long : (fs : List Field) → length (listed fs) ≡ 4 * length fs
@@ -100,7 +95,7 @@ module _ (rules : Rules) (edition : ℕ) (s : List ℕ) where
           few = omega arith;
           inside = inside;
           rest = ap (λ (k : ℕ). firstFields rules edition s k start) all;
-          list = sym (splice-none out₀);
+          list = sym (splice-none out₀ 0);
         }
 
     module _ {out : List ℕ} {c : Cursor} {i : ℕ} (f : SoFar count start out₀ out c i) where

@@ -64,7 +64,7 @@ pub fn next_taken(s: &[u8], taken: u32, cursor: Cursor) -> Step
             position = 32 * word + 30;
         } else {
             position = 32 * word + 32;
-            bits = octets::le32(s, 4 + 4 * (word as usize + 1));
+            bits = number_at::le32(s, 4 + 4 * (word as usize + 1));
         }
     }
     Step::End

@@ -5,13 +5,12 @@ use mathlib.Core.Path.{_≡_, refl, sym, ap, ap₂, _∙_}
 use mathlib.Core.Bool.{true}
 use mathlib.Core.List.{List, [], _∷_, _++_, append-assoc, append-nil}
 use native.Mathlib.Omega.{arith}
-use native.Mathlib.Nat.{add-zero}
-use lib.ListN.{length, take, drop, replicate, length-append, length-replicate, take-append-drop}
+use lib.ListN.{length, take, drop, replicate, length-append, length-replicate}
 use lib.Seq.{drop-drop}
 use Rattle.octets.specs.Numbers.{little, octetsOf}
 use Rattle.octets.specs.Parts.{part, splice, put}
-use Rattle.octets.proofs.Laws.{written}
-use Rattle.octets.proofs.PartLaws.{length-part, put-room, length-splice, splice-splice, put-next}
+use Rattle.octets.proofs.Fields.{length-octetsOf}
+use Rattle.octets.proofs.PartLaws.{length-part, put-room, length-splice, splice-none, splice-splice, put-next}
 use Rattle.radiotap_rules.specs.Rules.{Rules}
 use Rattle.radiotap_rules.specs.Reading.{fixedLength, wordBits}
 use Rattle.radiotap_rules.specs.Answers.{unknownField, layOf}
@@ -25,26 +24,21 @@ take-pad m zero h = refl
 take-pad zero (suc n) h = absurd (omega arith)
 take-pad (suc m) (suc n) h = ap (λ (l : List ℕ). 0 ∷ l) (take-pad m n (omega arith))
 
--- nothing spliced in
-splice-none : (out : List ℕ) (at : ℕ) → splice out at [] ≡ out
-unfolding splice
-splice-none out at = rw (append-nil (take at out), add-zero at) (take-append-drop at out)
-
 -- the octets of a fixed header
 abbrev fixedOctets : (size word : ℕ) → List ℕ
 fixedOctets size word = 0 ∷ 0 ∷ (octetsOf little 2 size ++ octetsOf little 4 word)
 
 fixed-long : (size word : ℕ) → length (fixedOctets size word) ≡ fixedLength
 fixed-long size word =
-    omega (arith, length-append (octetsOf little 2 size) (octetsOf little 4 word), written little 2 size .long, written little 4 word .long)
+    omega (arith, length-append (octetsOf little 2 size) (octetsOf little 4 word), length-octetsOf little 2 size, length-octetsOf little 4 word)
 
 -- version and pad, the length and the presence word, each put behind the one before
 pub fixed-put : (out : List ℕ) (at size word : ℕ) {l m p : List ℕ} → at + fixedLength ≤ length out → l ≡ put out at (0 ∷ 0 ∷ [])
     → m ≡ put l (at + 2) (octetsOf little 2 size) → p ≡ put m (at + 4) (octetsOf little 4 word)
     → p ≡ splice out at (fixedOctets size word)
 fixed-put out at size word {l} {m} {p} h el em ep =
-    let two = written little 2 size .long in
-    let four = written little 4 word .long in
+    let two = length-octetsOf little 2 size in
+    let four = length-octetsOf little 4 word in
     let first : l ≡ splice out at (0 ∷ 0 ∷ []) = el ∙ put-room out at (0 ∷ 0 ∷ []) (omega arith) in
     let second : m ≡ splice out at (0 ∷ 0 ∷ octetsOf little 2 size) =
     em ∙ ap (λ (o : List ℕ). put o (at + 2) (octetsOf little 2 size)) first

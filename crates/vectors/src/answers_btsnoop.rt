@@ -15,8 +15,8 @@ pub fn answer<'a>(op: u8, q: &[u8], first: &'a [u8], second: &'a [u8]) -> bool
 }
 
 fn read<'a>(op: u8, q: &[u8], first: &'a [u8], second: &'a [u8]) {
-    let a = octets::be64(q, 1) as usize;
-    let b = octets::be64(q, 9) as usize;
+    let a = number_at::be64(q, 1) as usize;
+    let b = number_at::be64(q, 9) as usize;
     match op {
         1 => header(first),
         2 => check(first),

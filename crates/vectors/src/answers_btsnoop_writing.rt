@@ -17,8 +17,8 @@ pub fn answer(op: u8, q: &[u8], first: &[u8], second: &[u8]) -> bool
 }
 
 fn write(op: u8, q: &[u8], first: &[u8], second: &[u8]) {
-    let a = octets::be64(q, 1);
-    let b = octets::be64(q, 9);
+    let a = number_at::be64(q, 1);
+    let b = number_at::be64(q, 9);
     match op {
         6 => read_time(a),
         7 => write_time(a, b),
@@ -68,11 +68,11 @@ fn write_record(q: &[u8], before: &[u8], packet: &[u8]) {
 fn write_record_into(q: &[u8], out: &mut [u8], packet: &[u8]) {
     let r = zalghimo::zalghimo_btsnoop_write_record(
         out,
-        octets::be64(q, 1) as usize,
-        low32(octets::be64(q, 9)),
-        low32(octets::be64(q, 17)),
-        low32(octets::be64(q, 25)),
-        twos_complement::signed64(octets::be64(q, 33)),
+        number_at::be64(q, 1) as usize,
+        low32(number_at::be64(q, 9)),
+        low32(number_at::be64(q, 17)),
+        low32(number_at::be64(q, 25)),
+        twos_complement::signed64(number_at::be64(q, 33)),
         packet,
     );
     written(r, out);

@@ -57,13 +57,13 @@ fn write(q: &[u8], before: &[u8], packet: &[u8]) {
 fn write_into(q: &[u8], out: &mut [u8], packet: &[u8]) {
     let r = zalghimo::le::zalghimo_le_write(
         out,
-        octets::be64(q, 1) as usize,
+        number_at::be64(q, 1) as usize,
         octets::octet(q, 13, 0),
         twos_complement::signed8(octets::octet(q, 14, 0)),
         twos_complement::signed8(octets::octet(q, 15, 0)),
         octets::octet(q, 16, 0),
-        low32(octets::be64(q, 17)),
-        octets::be16(q, 31),
+        low32(number_at::be64(q, 17)),
+        number_at::be16(q, 31),
         packet,
     );
     question_lines::numbers(&[r.kind, r.number, r.place, r.next]);

@@ -10,7 +10,7 @@ pub fn answer(op: u8, q: &[u8], first: &[u8]) -> bool
 {
     let own = question_lines::is_among(19, 19, op);
     if own {
-        numbers(octets::be64(q, 1), octets::be64(q, 9) as usize, first);
+        numbers(number_at::be64(q, 1), number_at::be64(q, 9) as usize, first);
     }
     own
 }
@@ -52,12 +52,12 @@ fn put(form: u8, n: u64, place: usize, out: &mut [u8]) {
 
 fn read(form: u8, place: usize, s: &[u8]) -> u64 {
     match form {
-        0 => octets::be16(s, place) as u64,
-        1 => octets::be32(s, place) as u64,
-        2 => octets::be64(s, place),
-        3 => octets::le16(s, place) as u64,
-        4 => octets::le32(s, place) as u64,
-        _ => octets::le64(s, place),
+        0 => number_at::be16(s, place) as u64,
+        1 => number_at::be32(s, place) as u64,
+        2 => number_at::be64(s, place),
+        3 => number_at::le16(s, place) as u64,
+        4 => number_at::le32(s, place) as u64,
+        _ => number_at::le64(s, place),
     }
 }
 

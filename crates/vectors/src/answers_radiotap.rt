@@ -17,12 +17,12 @@ pub fn answer(op: u8, q: &[u8], first: &[u8], second: &[u8]) -> bool
 }
 
 fn read(op: u8, q: &[u8], s: &[u8]) {
-    let a = octets::be64(q, 1);
-    let b = octets::be64(q, 9);
+    let a = number_at::be64(q, 1);
+    let b = number_at::be64(q, 9);
     match op {
         11 => header(s, low32(a)),
         12 => word(s, a as usize),
-        _ => fields(s, low32(a), b as usize, octets::be64(q, 17)),
+        _ => fields(s, low32(a), b as usize, number_at::be64(q, 17)),
     }
 }
 

@@ -20,8 +20,8 @@ pub fn answer(op: u8, q: &[u8], first: &[u8]) -> bool
     if own {
         field(
             first,
-            low32(octets::be64(q, 1)),
-            octets::be64(q, 9) as usize,
+            low32(number_at::be64(q, 1)),
+            number_at::be64(q, 9) as usize,
         );
     }
     own

@@ -24,9 +24,9 @@ fn write(q: &[u8], before: &[u8], values: &[u8]) {
 fn write_into(q: &[u8], out: &mut [u8], values: &[u8]) {
     let r = zalghimo::zalghimo_radiotap_write(
         out,
-        octets::be64(q, 1) as usize,
-        low32(octets::be64(q, 9)),
-        low32(octets::be64(q, 17)),
+        number_at::be64(q, 1) as usize,
+        low32(number_at::be64(q, 9)),
+        low32(number_at::be64(q, 17)),
         values,
     );
     question_lines::numbers(&[r.kind, r.number, r.place, r.next]);

@@ -24,18 +24,18 @@ pub fn answer(op: u8, q: &[u8], first: &[u8]) -> bool
 // The six numbers of the tally are the first octets, 8 each; they are lent to the C function, and as a tally.
 fn tally(q: &[u8], first: &[u8]) {
     let mut numbers = [
-        octets::be64(first, 0),
-        octets::be64(first, 8),
-        octets::be64(first, 16),
-        octets::be64(first, 24),
-        octets::be64(first, 32),
-        octets::be64(first, 40),
+        number_at::be64(first, 0),
+        number_at::be64(first, 8),
+        number_at::be64(first, 16),
+        number_at::be64(first, 24),
+        number_at::be64(first, 32),
+        number_at::be64(first, 40),
     ];
     let entry = Entry {
-        original: low32(octets::be64(q, 1)),
-        included: low32(octets::be64(q, 9)),
-        flags: low32(octets::be64(q, 17)),
-        drops: low32(octets::be64(q, 25)),
+        original: low32(number_at::be64(q, 1)),
+        included: low32(number_at::be64(q, 9)),
+        flags: low32(number_at::be64(q, 17)),
+        drops: low32(number_at::be64(q, 25)),
     };
     let outcome = lent(boundary_tally::tally_of(numbers), entry);
     let r = zalghimo::tallying::zalghimo_btsnoop_tally(

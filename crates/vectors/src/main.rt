@@ -40,8 +40,8 @@ fn run(input: &[u8]) {
 fn answer(q: &[u8]) {
     let op = octets::octet(q, 0, 0);
     io::print_decimal(STDOUT_FILENO, op as u64);
-    let first = octets::be32(q, 41) as usize;
-    let second = octets::be32(q, 45) as usize;
+    let first = number_at::be32(q, 41) as usize;
+    let second = number_at::be32(q, 45) as usize;
     ask(
         op,
         q,

@@ -18,8 +18,8 @@ pub fn question_length(input: &[u8]) -> usize
         return 0;
     }
     let left = input.len() - QUESTION_LENGTH;
-    let first = octets::be32(input, 41) as usize;
-    let second = octets::be32(input, 45) as usize;
+    let first = number_at::be32(input, 41) as usize;
+    let second = number_at::be32(input, 45) as usize;
     if left < first {
         return 0;
     }

@@ -1,4 +1,4 @@
--- `octets::le32` meets its contract: inside the input its octets are read at once, else one by one, the last first, and then joined by `join32`.
+-- `number_at::le32` meets its contract: inside the input its octets are read at once, else one by one, the last first, and then joined by `join32`.
 -- Assumes nothing.
 use Prim.Native.Nat.{_+_, _≤_}
 use native.Mathlib.Omega.{arith}
@@ -6,11 +6,11 @@ use mathlib.Core.Path.{sym, ap, _∙_}
 use lib.ListN.{length}
 use denote.Ref.{now}
 use borrow.Author.Tests.{leb-true}
 use Rattle.octets.specs.Numbers.{little, number, numberAt}
 use Rattle.octets.proofs.Laws.{cons, last}
 use borrow.Author.Needs.{needs}
-use Rattle.octets.proofs.le32.Statement.{statement}
-use Rattle.octets.proofs.le32.Tie as tie
+use Rattle.number_at.proofs.le32.Statement.{statement}
+use Rattle.number_at.proofs.le32.Tie as tie
 
 -- past the test all four octets lie inside
 inside : (c : tie.Then1) → c .before .before .before .args .at + 4 ≤ length (now (c .before .before .before .args .s))

@@ -1,11 +1,11 @@
--- `octets::be16` meets its contract: its octets read one by one, then `join16`.
+-- `number_at::be16` meets its contract: its octets read one by one, then `join16`.
 -- Assumes nothing.
 use mathlib.Core.Path.{ap, _∙_}
 use Rattle.octets.specs.Numbers.{big, number, numberAt}
 use Rattle.octets.proofs.Laws.{cons, last}
 use borrow.Author.Needs.{needs}
-use Rattle.octets.proofs.be16.Statement.{statement}
-use Rattle.octets.proofs.be16.Tie as tie
+use Rattle.number_at.proofs.be16.Statement.{statement}
+use Rattle.number_at.proofs.be16.Tie as tie
 
 octet-requires : tie.Need-octet-requires
 octet-requires c κs = search needs

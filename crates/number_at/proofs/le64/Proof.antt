@@ -1,11 +1,11 @@
--- `octets::le64` meets its contract: its octets read one by one, the last first, then `join64`.
+-- `number_at::le64` meets its contract: its octets read one by one, the last first, then `join64`.
 -- Assumes nothing.
 use mathlib.Core.Path.{ap, _∙_}
 use Rattle.octets.specs.Numbers.{little, number, numberAt}
 use Rattle.octets.proofs.Laws.{cons, last}
 use borrow.Author.Needs.{needs}
-use Rattle.octets.proofs.le64.Statement.{statement}
-use Rattle.octets.proofs.le64.Tie as tie
+use Rattle.number_at.proofs.le64.Statement.{statement}
+use Rattle.number_at.proofs.le64.Tie as tie
 
 octet-requires : tie.Need-octet-requires
 octet-requires c κs = search needs
