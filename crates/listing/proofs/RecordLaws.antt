@@ -14,8 +14,8 @@ use Rattle.btsnoop_rules.specs.File.{fileWalk}
 use Rattle.btsnoop_rules.proofs.Files.{whole-exactly}
 use Rattle.listing_rules.specs.Lines.{recordLine, stopLine, endLine, walkLines}
 use Rattle.listing_rules.proofs.WalkLaws.{left, left-all, left-refused, left-end, left-whole}
-use Rattle.listing_lines.specs.Wrote.{Wrote}
-use Rattle.listing_lines.proofs.WroteLaws.{wrote-then}
+use Rattle.text_lines.specs.Wrote.{Wrote}
+use Rattle.text_lines.proofs.WroteLaws.{wrote-then}
 
 -- the most octets of a record's line
 abbrev pub lineMost : ℕ

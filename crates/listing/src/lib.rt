@@ -6,7 +6,7 @@ ghost use Rattle.refusals.specs.Says.{writeSays};
 ghost use Rattle.btsnoop_rules.specs.Header.{headerLength};
 ghost use Rattle.btsnoop_rules.specs.File.{fileWalk};
 ghost use Rattle.listing_rules.specs.Lines.{mostOctets, mostListed, walkLines, listing, listingWriting, listingWritten};
-ghost use Rattle.listing_lines.specs.Wrote.{Wrote};
+ghost use Rattle.text_lines.specs.Wrote.{Wrote};
 use btsnoop_header::HeaderAnswer;
 use btsnoop_record::RecordAnswer;
 use btsnoop_rules::HEADER_LENGTH;
@@ -35,7 +35,7 @@ pub fn write(output: &mut [u8], place: usize, input: &[u8]) -> WriteAnswer
 // How many octets the listing of an input has.
 pub fn size(input: &[u8]) -> usize
     ensures { λ r. ⌜ r ≡ length (listing (now (input .entry))) ⌝ }
-    ensures { λ r. ⌜ r ≤ mostListed ⌝ }
+    ensures { λ r. do ⌜ r ≤ (← ⟦MOST_LISTED⟧ .entry) ⌝ }
 {
     let mut none = [0u8; 1];
     lines(&mut none, 0, input)

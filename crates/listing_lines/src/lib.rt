@@ -1,14 +1,17 @@
 // The lines of a listing, written into an output at a place. Each function tells the place behind what it wrote, or the
 // highest place where that would pass it, so that any place may be given.
-ghost use mathlib.Core.List.{[], _∷_, _++_};
+ghost use mathlib.Core.List.{_∷_, _++_};
 ghost use Prim.Native.Nat.{_+_, _≤_};
-ghost use lib.ListN.{length};
 ghost use Rattle.capture_time.specs.Answers.{timeSays};
-ghost use Rattle.text.specs.Decimal.{decimal, signedDecimal};
+ghost use Rattle.text.specs.Decimal.{decimal};
 ghost use Rattle.listing_rules.specs.Lines.{tab, fieldsOf, timeFields, fileLine, recordLine, stopLine, endLine};
-ghost use Rattle.listing_lines.specs.Wrote.{Behind, Wrote};
+ghost use Rattle.text_lines.specs.Wrote.{Wrote};
 use btsnoop_rules::Numbers;
 use capture_time::TimeAnswer;
+use text_lines::field;
+use text_lines::last_field;
+use text_lines::signed_field;
+use text_lines::word;
 
 // Writes the line of a file.
 pub fn file_line(output: &mut [u8], at: usize, datalink: u32) -> usize
@@ -73,53 +76,5 @@ fn time_fields(output: &mut [u8], at: usize, time: TimeAnswer) -> usize
             let next = signed_field(output, at, seconds);
             last_field(output, next, microseconds as u64)
         }
-    }
-}
-
-// Writes a tab, a number and the line's end.
-fn last_field(output: &mut [u8], at: usize, n: u64) -> usize
-    ensures { λ r. ⌜ Wrote (now (output .entry)) at (fieldsOf (decimal n ∷ [])) (now (output .exit)) r ⌝ }
-    ensures { λ r. ⌜ r ≤ at + 22 ⌝ }
-{
-    let end = field(output, at, n);
-    word(output, end, b"\n")
-}
-
-// Writes a tab and a number.
-fn field(output: &mut [u8], at: usize, n: u64) -> usize
-    ensures { λ r. ⌜ Wrote (now (output .entry)) at (tab ∷ decimal n) (now (output .exit)) r ⌝ }
-    ensures { λ r. ⌜ r ≤ at + 21 ⌝ }
-{
-    let next = word(output, at, b"\t");
-    place_behind(next, text::put(output, next, n))
-}
-
-// Writes a tab and a signed number.
-fn signed_field(output: &mut [u8], at: usize, n: i64) -> usize
-    ensures { λ r. ⌜ Wrote (now (output .entry)) at (tab ∷ signedDecimal n) (now (output .exit)) r ⌝ }
-    ensures { λ r. ⌜ r ≤ at + 22 ⌝ }
-{
-    let next = word(output, at, b"\t");
-    place_behind(next, text::put_signed(output, next, n))
-}
-
-// Writes octets as they are.
-fn word(output: &mut [u8], at: usize, octets: &[u8]) -> usize
-    ensures { λ r. ⌜ Wrote (now (output .entry)) at (now (octets .entry)) (now (output .exit)) r ⌝ }
-    ensures { λ r. ⌜ r ≤ at + length (now (octets .entry)) ⌝ }
-{
-    octets_put::put(output, at, octets);
-    place_behind(at, octets.len())
-}
-
-// The place so many octets behind another, or the highest place where that would pass it.
-fn place_behind(at: usize, n: usize) -> usize
-    ensures { λ r. ⌜ Behind at n r ⌝ }
-    ensures { λ r. ⌜ r ≤ at + n ⌝ }
-{
-    if n <= usize::MAX - at {
-        at + n
-    } else {
-        usize::MAX
     }
 }

@@ -8,8 +8,8 @@ use denote.Ref.{now}
 use borrow.Author.Needs.{needs}
 use Rattle.btsnoop_rules.proofs.HeaderLaws.{header-long}
 use Rattle.btsnoop_header.specs.Says.{headerSays}
-use Rattle.listing_lines.specs.Wrote.{Wrote}
-use Rattle.listing_lines.proofs.WroteLaws.{wrote-then}
+use Rattle.text_lines.specs.Wrote.{Wrote}
+use Rattle.text_lines.proofs.WroteLaws.{wrote-then}
 use Rattle.listing_rules.proofs.ListingLaws.{listing-above, listing-behind}
 use Rattle.listing.proofs.lines.Statement.{statement}
 use Rattle.listing.proofs.lines.Tie as tie

@@ -14,7 +14,7 @@ lines-requires c κs = search needs
 returns : tie.Need-returns
 returns c =
     let w = c .before .lines .ensures in
-    (omega (arith, w .0 .behind .2 (omega (arith, w .1))), omega (arith, w .1))
+    (omega (arith, w .0 .behind, w .1), omega (arith, w .1))
 
 pub size-spec : {M : Type 1} → statement M
 size-spec = tie.close (tie.spec slice-aggregate-lines lines-requires returns)

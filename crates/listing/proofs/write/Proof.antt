@@ -10,7 +10,8 @@ use borrow.Author.Needs.{needs}
 use Rattle.refusals.specs.Refusals.{given}
 use Rattle.octets.specs.Parts.{hasRoom}
 use Rattle.listing_rules.specs.Lines.{listing}
-use Rattle.listing_lines.specs.Wrote.{highestPlace}
+use Rattle.text_lines.specs.Wrote.{highestPlace}
+use Rattle.text_lines.proofs.WroteLaws.{exact}
 use Rattle.listing_rules.proofs.ListingLaws.{writing-room, written-room, writing-none, written-none}
 use Rattle.listing.proofs.write.Statement.{statement}
 use Rattle.listing.proofs.write.Tie as tie
@@ -46,8 +47,8 @@ returns c =
     let inside : a .place + length (listing (now (a .input))) ≤ length (now (a .output)) = leb-true _ _ room in
     let lines = c .before .before .lines in
     let w = lines .ensures .0 in
-    let low : lines .result < highestPlace = omega (arith, lines .ensures .1, start .good .0 .1) in (
-      ap given (w .behind .2 low) ∙ sym (writing-room (now (a .output)) (a .place) (now (a .input)) room),
+    let low : a .place + length (listing (now (a .input))) ≤ highestPlace = omega (arith, start .good .0 .1) in (
+      ap given (exact (a .place) (length (listing (now (a .input)))) (w .behind) low) ∙ sym (writing-room (now (a .output)) (a .place) (now (a .input)) room),
       w .holds low inside ∙ sym (written-room (now (a .output)) (a .place) (now (a .input)) room),
     )
 

@@ -4,7 +4,7 @@ use native.Mathlib.Omega.{arith}
 use borrow.Author.Needs.{needs}
 use Rattle.text.specs.Decimal.{decimal}
 use Rattle.listing_rules.specs.Lines.{fileLine}
-use Rattle.listing_lines.proofs.WroteLaws.{wrote-then}
+use Rattle.text_lines.proofs.WroteLaws.{wrote-then}
 use Rattle.listing_lines.proofs.file_line.Statement.{statement}
 use Rattle.listing_lines.proofs.file_line.Tie as tie
 

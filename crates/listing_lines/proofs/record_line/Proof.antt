@@ -9,8 +9,8 @@ use Rattle.refusals.specs.Refusals.{Answer}
 use Rattle.capture_time.specs.Time.{CaptureTime, reading}
 use Rattle.text.specs.Decimal.{decimal}
 use Rattle.listing_rules.specs.Lines.{fieldsOf, timeFields, recordLine}
-use Rattle.listing_lines.specs.Wrote.{Wrote}
-use Rattle.listing_lines.proofs.WroteLaws.{wrote-then, wrote-two}
+use Rattle.text_lines.specs.Wrote.{Wrote}
+use Rattle.text_lines.proofs.WroteLaws.{wrote-then, wrote-two}
 use Rattle.listing_lines.proofs.record_line.Statement.{statement}
 use Rattle.listing_lines.proofs.record_line.Tie as tie
 

@@ -12,8 +12,8 @@ use Rattle.capture_time.specs.declared.TimeAnswer.{TimeAnswer}
 use Rattle.capture_time.specs.Answers.{timeSays}
 use Rattle.text.specs.Decimal.{signedDecimal}
 use Rattle.listing_rules.specs.Lines.{tab, fieldsOf, timeFields}
-use Rattle.listing_lines.specs.Wrote.{Wrote}
-use Rattle.listing_lines.proofs.WroteLaws.{wrote-then}
+use Rattle.text_lines.specs.Wrote.{Wrote}
+use Rattle.text_lines.proofs.WroteLaws.{wrote-then}
 use Rattle.listing_lines.proofs.time_fields.Statement.{statement}
 use Rattle.listing_lines.proofs.time_fields.Tie as tie
 

@@ -2,7 +2,7 @@
 -- Assumes nothing.
 use native.Mathlib.Omega.{arith}
 use borrow.Author.Needs.{needs}
-use Rattle.listing_lines.proofs.WroteLaws.{wrote-then}
+use Rattle.text_lines.proofs.WroteLaws.{wrote-then}
 use Rattle.listing_lines.proofs.two_fields.Statement.{statement}
 use Rattle.listing_lines.proofs.two_fields.Tie as tie
 

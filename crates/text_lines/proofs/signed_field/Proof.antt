@@ -1,4 +1,4 @@
--- `listing_lines::signed_field` meets its contract: the tab is written, and behind it the number, which its bits stand for.
+-- `text_lines::signed_field` meets its contract: the tab is written, and behind it the number, which its bits stand for.
 -- Assumes nothing.
 use native.Mathlib.Omega.{arith}
 use mathlib.Core.Path.{subst}
@@ -9,10 +9,10 @@ use denote.Ref.{now}
 use borrow.Author.Needs.{needs}
 use Rattle.text.specs.Decimal.{signedDecimal}
 use Rattle.listing_rules.specs.Lines.{tab}
-use Rattle.listing_lines.specs.Wrote.{Wrote}
-use Rattle.listing_lines.proofs.WroteLaws.{wrote-text}
-use Rattle.listing_lines.proofs.signed_field.Statement.{statement}
-use Rattle.listing_lines.proofs.signed_field.Tie as tie
+use Rattle.text_lines.specs.Wrote.{Wrote}
+use Rattle.text_lines.proofs.WroteLaws.{wrote-text}
+use Rattle.text_lines.proofs.signed_field.Statement.{statement}
+use Rattle.text_lines.proofs.signed_field.Tie as tie
 
 slice-aggregate-word : tie.Need-slice-aggregate-word
 slice-aggregate-word c = search needs
@@ -38,8 +38,8 @@ returns c =
     let next = c .place-behind in
     let same = toZ-ofZ {z = a .n} (start .fits .n) in (
       subst (λ (z : ℤ). Wrote (now (a .output)) (a .at) (tab ∷ signedDecimal z) (text .last .0) (next .result)) same
-          (wrote-text _ (first .word .ensures .0) (text .ensures .1 .1) (text .ensures .0) (next .ensures .0)),
-      omega (arith, first .word .ensures .1, text .ensures .1 .0, next .ensures .1),
+          (wrote-text _ (first .word .ensures .0) (text .ensures .1 .1) (text .ensures .0) (next .ensures .0) (next .ensures .1 .0)),
+      omega (arith, first .word .ensures .1, text .ensures .1 .0, next .ensures .1 .1),
     )
 
 pub signed-field-spec : {M : Type 1} → statement M

@@ -9,14 +9,19 @@ use lib.ListN.{length, getD, length-append}
 use Rattle.octets.specs.Parts.{put, splice}
 use Rattle.octets.proofs.PartLaws.{put-room, length-put, put-elsewhere, splice-splice}
 use Rattle.listing_rules.specs.Lines.{tab}
-use Rattle.listing_lines.specs.Wrote.{Behind, Wrote}
+use Rattle.text_lines.specs.Wrote.{highestPlace, placeBehind, Wrote}
+
+-- the place behind is the sum where no place is passed
+pub exact : (at n : ℕ) {next : ℕ} → next ≡ placeBehind at n → at + n ≤ highestPlace → next ≡ at + n
+exact at n e fits = omega arith
 
 -- an output that is what a put leaves, and the place behind it
 pub wrote-is : {before after : List ℕ} {at next : ℕ} {xs : List ℕ}
-    → after ≡ put before at xs → Behind at (length xs) next → Wrote before at xs after next
-wrote-is {before} {after} {at} {next} {xs} e n =
+    → after ≡ put before at xs → next ≡ placeBehind at (length xs) → at ≤ next → Wrote before at xs after next
+wrote-is {before} {after} {at} {next} {xs} e n onward =
     record {
       behind = n;
+      onward = onward;
       long = ap length e ∙ length-put before at xs;
       holds = λ low room. e ∙ put-room before at xs room;
       elsewhere = λ i other. ap (λ (l : List ℕ). getD l i 0) e ∙ put-elsewhere before at xs i other;
@@ -28,20 +33,15 @@ pub wrote-then : {before between after : List ℕ} {at middle next : ℕ} {xs ys
 wrote-then {before} {between} {after} {at} {middle} {next} {xs} {ys} first second =
     let sum : length (xs ++ ys) ≡ length xs + length ys = length-append xs ys in
     let long : length between ≡ length before = first .long in
+    let m : middle ≡ placeBehind at (length xs) = first .behind in
+    let n : next ≡ placeBehind middle (length ys) = second .behind in
     record {
-      behind = (
-        omega (arith, first .behind .0, second .behind .0),
-        omega (arith, first .behind .1, second .behind .1),
-        λ low.
-            let two : next ≡ middle + length ys = second .behind .2 low in
-            let one : middle ≡ at + length xs = first .behind .2 (omega arith) in
-            omega arith,
-      );
+      behind = omega arith;
+      onward = omega (arith, first .onward, second .onward);
       long = second .long ∙ first .long;
       holds = λ low room.
-          let two : next ≡ middle + length ys = second .behind .2 low in
-          let one : middle ≡ at + length xs = first .behind .2 (omega arith) in
-          second .holds low (omega arith)
+          let one : middle ≡ at + length xs = exact at (length xs) m (omega arith) in
+          second .holds (omega arith) (omega arith)
           ∙ ap (λ (out : List ℕ). splice out middle ys) (first .holds (omega arith) (omega arith))
           ∙ ap (λ (k : ℕ). splice (splice before at xs) k ys) one
           ∙ splice-splice before at xs ys (omega arith);
@@ -49,8 +49,8 @@ wrote-then {before} {between} {after} {at} {middle} {next} {xs} {ys} first secon
     }
   where
     later : (i : ℕ) → (i < at) ⊎ (at + length (xs ++ ys) ≤ i) → (i < middle) ⊎ (middle + length ys ≤ i)
-    later i (inl low) = inl (omega (arith, first .behind .0))
-    later i (inr high) = inr (omega (arith, first .behind .1, length-append xs ys))
+    later i (inl low) = inl (omega (arith, first .onward))
+    later i (inr high) = inr (omega (arith, first .behind, length-append xs ys))
 
     sooner : (i : ℕ) → (i < at) ⊎ (at + length (xs ++ ys) ≤ i) → (i < at) ⊎ (at + length xs ≤ i)
     sooner i (inl low) = inl low
@@ -58,9 +58,9 @@ wrote-then {before} {between} {after} {at} {middle} {next} {xs} {ys} first secon
 
 -- a text that is put behind other octets
 pub wrote-text : {before between after : List ℕ} {at middle size next : ℕ} {xs : List ℕ} (text : List ℕ)
-    → Wrote before at xs between middle → after ≡ put between middle text → size ≡ length text → Behind middle size next
-    → Wrote before at (xs ++ text) after next
-wrote-text {middle} {next} text first e n b = wrote-then first (wrote-is e (subst (λ (k : ℕ). Behind middle k next) n b))
+    → Wrote before at xs between middle → after ≡ put between middle text → size ≡ length text
+    → next ≡ placeBehind middle size → middle ≤ next → Wrote before at (xs ++ text) after next
+wrote-text {middle} text first e n b onward = wrote-then first (wrote-is e (b ∙ ap (placeBehind middle) n) onward)
 
 -- what is written behind two fields
 pub wrote-two : {before between after : List ℕ} {at middle next : ℕ} (xs ys zs : List ℕ)

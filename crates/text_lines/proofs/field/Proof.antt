@@ -1,10 +1,10 @@
--- `listing_lines::field` meets its contract: the tab is written, and behind it the number.
+-- `text_lines::field` meets its contract: the tab is written, and behind it the number.
 -- Assumes nothing.
 use native.Mathlib.Omega.{arith}
 use borrow.Author.Needs.{needs}
-use Rattle.listing_lines.proofs.WroteLaws.{wrote-text}
-use Rattle.listing_lines.proofs.field.Statement.{statement}
-use Rattle.listing_lines.proofs.field.Tie as tie
+use Rattle.text_lines.proofs.WroteLaws.{wrote-text}
+use Rattle.text_lines.proofs.field.Statement.{statement}
+use Rattle.text_lines.proofs.field.Tie as tie
 
 slice-aggregate-word : tie.Need-slice-aggregate-word
 slice-aggregate-word c = search needs
@@ -26,7 +26,7 @@ returns c =
     let tab = c .before .before .before .before .before .before .before .word .ensures in
     let text = c .before .before .before .put .ensures in
     let next = c .place-behind .ensures in
-    (wrote-text _ (tab .0) (text .1 .1) (text .0) (next .0), omega (arith, tab .1, text .1 .0, next .1))
+    (wrote-text _ (tab .0) (text .1 .1) (text .0) (next .0) (next .1 .0), omega (arith, tab .1, text .1 .0, next .1 .1))
 
 pub field-spec : {M : Type 1} → statement M
 field-spec =
