@@ -1,6 +1,6 @@
 // The fields of a radiotap header as a list of numbers, four a field: word, bit, start, size.
 ghost use mathlib.Core.Path.{_≡_};
-ghost use mathlib.Core.List.{[], _∷_};
+ghost use mathlib.Core.List.{[], _∷_, map};
 ghost use Prim.Native.Nat.{_+_, _*_, _≤_};
 ghost use lib.ListN.{length, getD};
 ghost use Rattle.refusals.specs.Refusals.{given};
@@ -9,6 +9,7 @@ ghost use Rattle.radiotap_rules.specs.Table.{ourRules};
 ghost use Rattle.radiotap_rules.specs.Reading.{presenceWords, readWords, reading};
 ghost use Rattle.radiotap_rules.specs.Steps.{headAt, firstCursor};
 ghost use Rattle.radiotap_rules.specs.Answers.{summary, listed, listedInto};
+ghost use Rattle.radiotap_table.specs.Rows.{numbersOf};
 ghost use Rattle.radiotap.specs.Says.{opening, readSays};
 ghost use Rattle.radiotap.specs.Outcomes.{outcome, summarised};
 ghost use Rattle.radiotap_list.specs.Listing.{roomFor, firstFields};
@@ -38,11 +39,12 @@ fn twice(s: &[u8], edition: u32, head: Head, out: &mut [u64]) -> ReadAnswer
     ensures { λ _. ⌜ now (out .exit) ≡ listedInto (now (out .entry)) (reading ourRules edition (now (s .entry))) ⌝ }
 {
     let taken = radiotap_table::reading(edition);
+    let rows = radiotap_table::rows();
     let most = out.len() / 4;
     let mut room = 0;
     let mut judged = false;
     loop {
-        let answer = list(s, taken, head, room, out);
+        let answer = list(s, taken, head, &rows, room, out);
         if judged {
             return answer;
         }
@@ -74,14 +76,20 @@ fn room_for(answer: ReadAnswer, most: usize) -> usize
     }
 }
 
-// Walks over the fields behind a head in the edition taken as `radiotap::read` does, and puts the first of them into a
-// list, as many as there is room for.
-fn list(s: &[u8], taken: u32, head: Head, room: usize, out: &mut [u64]) -> ReadAnswer
-    requires { ⌜ (headAt (now s) ≡ given head) × (4 * room ≤ length (now out)) ⌝ }
+// Walks over the fields behind a head in the edition taken as `radiotap::read` does, by the rows of the table, and puts
+// the first of them into a list, as many as there is room for.
+fn list(
+    s: &[u8],
+    taken: u32,
+    head: Head,
+    rows: &[[u8; 3]; 32],
+    room: usize,
+    out: &mut [u64],
+) -> ReadAnswer
+    requires { ⌜ (headAt (now s) ≡ given head) × (now rows ≡ map numbersOf (ourRules .rows)) × (4 * room ≤ length (now out)) ⌝ }
     ensures { λ r. ⌜ readSays r ≡ summarised (getD (now (s .entry)) 1 0) head (outcome 0 (readWords ourRules taken (now (s .entry)) (head .size) (presenceWords (now (s .entry)) (head .size)))) ⌝ }
     ensures { λ _. ⌜ now (out .exit) ≡ splice (now (out .entry)) 0 (listed (firstFields ourRules taken (now (s .entry)) room (firstCursor head))) ⌝ }
 {
-    let rows = radiotap_table::rows();
     let known = radiotap_bits::known(taken);
     let pad = octets::octet(s, 1, 0);
     let size = head.size as usize;

@@ -27,56 +27,53 @@ use Rattle.radiotap_list.proofs.list.Statement.{statement}
 use Rattle.radiotap_list.proofs.list.Tie as tie
 
 abbrev Inv-loop2 : tie.InvT-loop2
-Inv-loop2 s taken head room out₀ rows known pad size words index word last₀ fields₀ carried left₀ out last fields left =
+Inv-loop2 s taken head rows room out₀ known pad size words index word last₀ fields₀ carried left₀ out last fields left =
     (c : Cursor)
     × Counting taken s known size words c index left (trailingZeros wordBits (carried .unknown)) last fields
     × ((base : List ℕ) → Filled ourRules taken s room (firstCursor head) base out₀ (min fields₀ room)
     → SoFar ourRules taken s room (firstCursor head) base out c (min fields room))
 
 abbrev μ-loop2 : tie.MeasureT-loop2
-μ-loop2 s taken head room out₀ rows known pad size words index word last₀ fields₀ carried left₀ out last fields left = left
+μ-loop2 s taken head rows room out₀ known pad size words index word last₀ fields₀ carried left₀ out last fields left = left
 
 abbrev Inv-loop : tie.InvT-loop
-Inv-loop s taken head room out₀ rows known pad size words index₀ word₀ last₀ fields₀ out index word last fields =
+Inv-loop s taken head rows room out₀ known pad size words index₀ word₀ last₀ fields₀ out index word last fields =
     (c : Cursor)
     × AtWord taken s known size words c index word last fields
     × SoFar ourRules taken s room (firstCursor head) out₀ out c (min fields room)
 
 abbrev μ-loop : tie.MeasureT-loop
-μ-loop s taken head room out₀ rows known pad size words index₀ word₀ last₀ fields₀ out index word last fields = words - index
+μ-loop s taken head rows room out₀ known pad size words index₀ word₀ last₀ fields₀ out index word last fields = words - index
 
 -- what the list holds, made from the one lent
 holds : (c : tie.At-loop2 Inv-loop2 μ-loop2 Inv-loop μ-loop)
-    → SoFar ourRules (c .before .before .before .before .before .before .before .before .before .before .args .taken) (now (c .before .before .before .before .before .before .before .before .before .before .args .s)) (c .before .before .before .before .before .before .before .before .before .before .args .room) (firstCursor (c .before .before .before .before .before .before .before .before .before .before .args .head)) (now (c .before .before .before .before .before .before .before .before .before .before .args .out)) (c .loop2 .out) (c .loop2 .inv .0) (min (c .loop2 .fields) (c .before .before .before .before .before .before .before .before .before .before .args .room))
+    → SoFar ourRules (c .before .before .before .before .before .before .before .before .before .args .taken) (now (c .before .before .before .before .before .before .before .before .before .args .s)) (c .before .before .before .before .before .before .before .before .before .args .room) (firstCursor (c .before .before .before .before .before .before .before .before .before .args .head)) (now (c .before .before .before .before .before .before .before .before .before .args .out)) (c .loop2 .out) (c .loop2 .inv .0) (min (c .loop2 .fields) (c .before .before .before .before .before .before .before .before .before .args .room))
 holds c =
-    let a = c .before .before .before .before .before .before .before .before .before .before .args in
+    let a = c .before .before .before .before .before .before .before .before .before .args in
     c .loop2 .inv .2 (now (a .out)) (filled ourRules (a .taken) (now (a .s)) (a .room) (firstCursor (a .head)) (c .before .before .loop .inv .2))
 
 -- it keeps its length
-stays : (c : tie.At-loop2 Inv-loop2 μ-loop2 Inv-loop μ-loop) → length (c .loop2 .out) ≡ length (now (c .before .before .before .before .before .before .before .before .before .before .args .out))
+stays : (c : tie.At-loop2 Inv-loop2 μ-loop2 Inv-loop μ-loop) → length (c .loop2 .out) ≡ length (now (c .before .before .before .before .before .before .before .before .before .args .out))
 stays c =
-    let a = c .before .before .before .before .before .before .before .before .before .before .args in
-    keeps-length ourRules (a .taken) (now (a .s)) (a .room) (firstCursor (a .head)) (now (a .out)) (holds c) (c .before .before .before .before .before .before .before .before .before .before .pre .1)
+    let a = c .before .before .before .before .before .before .before .before .before .args in
+    keeps-length ourRules (a .taken) (now (a .s)) (a .room) (firstCursor (a .head)) (now (a .out)) (holds c) (c .before .before .before .before .before .before .before .before .before .pre .2)
 
 -- the lowest bit left is one of the word's
 small : (c : tie.In-loop2 Inv-loop2 μ-loop2 Inv-loop μ-loop) → trailingZeros wordBits (c .before .loop2 .left) < wordBits
 small c =
-    let a = c .before .before .before .before .before .before .before .before .before .before .before .args in
+    let a = c .before .before .before .before .before .before .before .before .before .before .args in
     counts-small (a .taken) (now (a .s)) (c .before .before .before .before .before .before .before .known .result) (c .before .loop2 .inv .1) (c .loop2-test .taken)
 
 -- its field takes what its row says
 spans : (c : tie.After-span-of Inv-loop2 μ-loop2 Inv-loop μ-loop) → SpannedAs (trailingZeros wordBits (c .before .before .before .loop2 .left)) (c .span-of .result)
-spans c = row-spans ourRules (c .before .before .before .before .before .before .before .before .before .before .rows .ensures) (trailingZeros wordBits (c .before .before .before .loop2 .left)) (small (c .before .before)) (c .span-of .ensures)
+spans c = row-spans ourRules (c .before .before .before .before .before .before .before .before .before .before .before .before .pre .1) (trailingZeros wordBits (c .before .before .before .loop2 .left)) (small (c .before .before)) (c .span-of .ensures)
 
 -- and starts not far behind the length
 near : (c : tie.After-span-of Inv-loop2 μ-loop2 Inv-loop μ-loop) → bitOr (c .before .before .before .loop2 .last) (c .span-of .result .mask) < 2 ^ 32 + 43
 near c =
-    let a = c .before .before .before .before .before .before .before .before .before .before .before .before .before .args in
+    let a = c .before .before .before .before .before .before .before .before .before .before .before .before .args in
     let w = c .before .before .before .loop2 .inv .1 in
     omega (arith, counts-near (a .taken) (now (a .s)) (c .before .before .before .before .before .before .before .before .before .known .result) w (c .before .before .loop2-test .taken) (spans c), w .sofar .room, c .before .before .before .before .before .before .before .struct-known .given)
-
-rows-requires : tie.Need-rows-requires Inv-loop2 μ-loop2 Inv-loop μ-loop
-rows-requires c κs = search needs
 
 known-requires : tie.Need-known-requires Inv-loop2 μ-loop2 Inv-loop μ-loop
 known-requires c κs = search needs
@@ -101,12 +98,12 @@ add-last c = search needs
 
 loop-holds : tie.Need-loop-holds Inv-loop2 μ-loop2 Inv-loop μ-loop
 loop-holds c =
-    let a = c .before .before .before .before .before .before .before .args in
+    let a = c .before .before .before .before .before .before .args in
     let none : 0 ≡ min 0 (a .room) = sym (zero-min (a .room)) in (
       _,
-      word-first (a .taken) (now (a .s)) (c .before .before .before .known .result) (a .head) (c .before .before .before .before .before .before .before .pre .0) (c .before .before .before .known .ensures),
+      word-first (a .taken) (now (a .s)) (c .before .before .before .known .result) (a .head) (c .before .before .before .before .before .before .pre .0) (c .before .before .before .known .ensures),
       subst (SoFar ourRules (a .taken) (now (a .s)) (a .room) (firstCursor (a .head)) (now (a .out)) (now (a .out)) (firstCursor (a .head))) none
-          (begins ourRules (a .taken) (now (a .s)) (a .room) (firstCursor (a .head)) (now (a .out)) (head-inside (now (a .s)) (a .head) (c .before .before .before .before .before .before .before .pre .0))),
+          (begins ourRules (a .taken) (now (a .s)) (a .room) (firstCursor (a .head)) (now (a .out)) (head-inside (now (a .s)) (a .head) (c .before .before .before .before .before .before .pre .0))),
     )
 
 carries-requires : tie.Need-carries-requires Inv-loop2 μ-loop2 Inv-loop μ-loop
@@ -114,7 +111,7 @@ carries-requires c κs = search needs
 
 loop2-holds : tie.Need-loop2-holds Inv-loop2 μ-loop2 Inv-loop μ-loop
 loop2-holds c =
-    let a = c .before .before .before .before .before .before .before .before .before .args in
+    let a = c .before .before .before .before .before .before .before .before .args in
     (_, word-opens (a .taken) (now (a .s)) (c .before .before .before .before .before .known .result) (c .before .loop .inv .1) (c .carries .ensures), rebased ourRules (a .taken) (now (a .s)) (a .room) (firstCursor (a .head)) (c .before .loop .inv .2))
 
 cast-span-of : tie.Need-cast-span-of Inv-loop2 μ-loop2 Inv-loop μ-loop
@@ -123,8 +120,8 @@ cast-span-of c = omega (arith, small c)
 mul-span-of : tie.Need-mul-span-of Inv-loop2 μ-loop2 Inv-loop μ-loop
 mul-span-of c = omega (arith, small c)
 
-array-copy-out-span-of : tie.Need-array-copy-out-span-of Inv-loop2 μ-loop2 Inv-loop μ-loop
-array-copy-out-span-of c = small c
+element-copy-out-span-of : tie.Need-element-copy-out-span-of Inv-loop2 μ-loop2 Inv-loop μ-loop
+element-copy-out-span-of c = small c
 
 span-of-requires : tie.Need-span-of-requires Inv-loop2 μ-loop2 Inv-loop μ-loop
 span-of-requires c κs = search needs
@@ -135,15 +132,15 @@ cast-last-2 c = search needs
 add-last-2 : tie.Need-add-last-2 Inv-loop2 μ-loop2 Inv-loop μ-loop
 add-last-2 c = omega (arith, near (c .before .before), c .struct-known4 .given)
 
-add-t29 : tie.Need-add-t29 Inv-loop2 μ-loop2 Inv-loop μ-loop
-add-t29 c = omega (arith, near (c .before .before .before))
+add-t28 : tie.Need-add-t28 Inv-loop2 μ-loop2 Inv-loop μ-loop
+add-t28 c = omega (arith, near (c .before .before .before))
 
 same-length : tie.Need-same-length Inv-loop2 μ-loop2 Inv-loop μ-loop
 same-length c = stays (c .before .before .before .before .before .before)
 
 returns : tie.Need-returns Inv-loop2 μ-loop2 Inv-loop μ-loop
 returns c =
-    let a = c .before .before .before .before .before .before .before .before .before .before .before .before .before .before .before .before .args in
+    let a = c .before .before .before .before .before .before .before .before .before .before .before .before .before .before .before .args in
     let i = c .before .before .before .before .before .before .loop2 .inv in
     let step = counts-past (a .taken) (now (a .s)) (c .before .before .before .before .before .before .before .before .before .before .before .before .known .result) (i .1) (c .before .before .before .before .before .loop2-test .taken) (spans (c .before .before .before)) (c .if1 .taken) in (
       sym (ap (summarised _ (a .head)) (walk-refuses ourRules (a .taken) (now (a .s)) 0 (i .1 .sofar .found) step)),
@@ -151,17 +148,17 @@ returns c =
     )
 
 mul-put : tie.Need-mul-put Inv-loop2 μ-loop2 Inv-loop μ-loop
-mul-put c = omega (arith, c .before .before .before .before .before .before .before .before .before .before .before .before .before .before .before .before .before .before .pre .1)
+mul-put c = omega (arith, c .before .before .before .before .before .before .before .before .before .before .before .before .before .before .before .before .before .pre .2)
 
 add-put : tie.Need-add-put Inv-loop2 μ-loop2 Inv-loop μ-loop
 add-put c = omega (arith, near (c .before .before .before .before .before))
 
 put-requires : tie.Need-put-requires Inv-loop2 μ-loop2 Inv-loop μ-loop
-put-requires c κs = omega (arith, stays (c .before .before .before .before .before .before .before .before), c .before .before .before .before .before .before .before .before .before .before .before .before .before .before .before .before .before .before .pre .1)
+put-requires c κs = omega (arith, stays (c .before .before .before .before .before .before .before .before), c .before .before .before .before .before .before .before .before .before .before .before .before .before .before .before .before .before .pre .2)
 
 add-fields : tie.Need-add-fields Inv-loop2 μ-loop2 Inv-loop μ-loop
 add-fields c =
-    let a = c .before .before .before .before .before .before .before .before .before .before .before .before .before .before .before .before .before .args in
+    let a = c .before .before .before .before .before .before .before .before .before .before .before .before .before .before .before .before .args in
     omega (arith, few-fields (a .taken) (now (a .s)) (c .before .before .before .before .before .before .before .before .before .before .before .before .before .known .result) (c .before .before .before .before .before .before .before .loop2 .inv .1 .sofar))
 
 sub-left : tie.Need-sub-left Inv-loop2 μ-loop2 Inv-loop μ-loop
@@ -175,7 +172,7 @@ loop2-less c =
 
 loop2-again : tie.Need-loop2-again Inv-loop2 μ-loop2 Inv-loop μ-loop
 loop2-again c =
-    let a = c .before .before .before .before .before .before .before .before .before .before .before .before .before .before .before .before .before .args in
+    let a = c .before .before .before .before .before .before .before .before .before .before .before .before .before .before .before .before .args in
     let i = c .before .before .before .before .before .before .before .loop2 .inv in
     let some = c .before .before .before .before .before .before .loop2-test .taken in
     let spans = spans (c .before .before .before .before) in
@@ -194,7 +191,7 @@ same-length-2 c = stays (c .before .before .before .before)
 
 returns-2 : tie.Need-returns-2 Inv-loop2 μ-loop2 Inv-loop μ-loop
 returns-2 c =
-    let a = c .before .before .before .before .before .before .before .before .before .before .before .before .before .before .args in
+    let a = c .before .before .before .before .before .before .before .before .before .before .before .before .before .args in
     let i = c .before .before .before .before .loop2 .inv in
     let inside = stop-inside (a .taken) (now (a .s)) (c .before .before .before .before .before .before .before .before .before .before .known .result) (c .before .before .before .before .before .carries .ensures) (c .before .if3 .taken) in
     let step = counts-stop (a .taken) (now (a .s)) (c .before .before .before .before .before .before .before .before .before .before .known .result) (i .1) (c .before .before .before .loop2-test .left) inside in (
@@ -204,7 +201,7 @@ returns-2 c =
 
 add-index : tie.Need-add-index Inv-loop2 μ-loop2 Inv-loop μ-loop
 add-index c =
-    let a = c .before .before .before .before .before .before .before .before .before .before .before .before .before .args in
+    let a = c .before .before .before .before .before .before .before .before .before .before .before .before .args in
     let w = c .before .before .before .loop2 .inv .1 .sofar in
     omega (arith, w .more, few-words (a .taken) (now (a .s)) (c .before .before .before .before .before .before .before .before .before .known .result) w)
 
@@ -213,7 +210,7 @@ same-length-3 c = stays (c .before .before .before .before)
 
 returns-3 : tie.Need-returns-3 Inv-loop2 μ-loop2 Inv-loop μ-loop
 returns-3 c =
-    let a = c .before .before .before .before .before .before .before .before .before .before .before .before .before .before .args in
+    let a = c .before .before .before .before .before .before .before .before .before .before .before .before .before .args in
     let i = c .before .before .before .before .loop2 .inv in
     let past = stop-none (a .taken) (now (a .s)) (c .before .before .before .before .before .before .before .before .before .before .known .result) (c .before .if3 .left) in
     let step = counts-end (a .taken) (now (a .s)) (c .before .before .before .before .before .before .before .before .before .before .known .result) (i .1) (c .before .before .before .loop2-test .left) past (c .if4 .taken) in (
@@ -229,7 +226,7 @@ loop-less c = omega (arith, c .before .before .before .before .before .loop2 .in
 
 loop-again : tie.Need-loop-again Inv-loop2 μ-loop2 Inv-loop μ-loop
 loop-again c =
-    let a = c .before .before .before .before .before .before .before .before .before .before .before .before .before .before .before .args in
+    let a = c .before .before .before .before .before .before .before .before .before .before .before .before .before .before .args in
     let i = c .before .before .before .before .before .loop2 .inv in
     let past = stop-none (a .taken) (now (a .s)) (c .before .before .before .before .before .before .before .before .before .before .before .known .result) (c .before .before .if3 .left) in
     (_, counts-word (a .taken) (now (a .s)) (c .before .before .before .before .before .before .before .before .before .before .before .known .result) (i .1) (c .before .before .before .before .loop2-test .left) past (c .before .if4 .left) (c .word-at .ensures), holds (c .before .before .before .before .before))
@@ -242,7 +239,6 @@ list-spec =
     μ-loop2
     Inv-loop
     μ-loop
-    rows-requires
     known-requires
     octet-requires
     cast-size
@@ -255,11 +251,11 @@ list-spec =
     loop2-holds
     cast-span-of
     mul-span-of
-    array-copy-out-span-of
+    element-copy-out-span-of
     span-of-requires
     cast-last-2
     add-last-2
-    add-t29
+    add-t28
     same-length
     returns
     mul-put
