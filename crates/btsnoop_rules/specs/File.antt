@@ -21,7 +21,7 @@ pub record File : Type 0 where
   pub datalink : ℕ
   pub records : ℕ
 
--- a file whose walk ended with so many records. (Behind a valid header it never ends with "more": claim NeverMore.)
+-- a file whose walk ended with so many records. (Behind a valid header it never ends with "more": claim WalkNeverMore.)
 abbrev pub fileOf : ℕ → ℕ → Ending → Answer File
 fileOf code count (ended q) = given (record { datalink = code; records = count })
 fileOf code count (more q) = refused recordPlace q
