@@ -77,10 +77,10 @@ adds (e ∷ es) t u h = go (fits (added t e)) (λ k. adds es (added t e) u k) h
         }
     go false rest k = let z : _≡_ {A = ℕ} 0 1 = cc in absurd (omega arith)
 
--- tallying the records of a list from an empty tally gives its counts and sums
+-- tallying the records of a list from any empty tally gives its counts and sums
 pub tally-counts : TallyCounts
-tally-counts es t h =
-    let a = adds es emptyTally t h in
+tally-counts drops es t h =
+    let a = adds es (emptyTally drops) t h in
     record {
       records = a .records ∙ omega arith;
       received = a .received ∙ omega arith;

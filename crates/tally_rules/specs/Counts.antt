@@ -11,9 +11,9 @@ use Rattle.tally_rules.specs.declared.Tally.{Tally}
 use Rattle.tally_rules.specs.declared.Entry.{Entry}
 use Rattle.tally_rules.specs.Tally.{oneIf, updating}
 
--- a tally with nothing counted
-abbrev pub emptyTally : Tally
-emptyTally = record { records = 0; received = 0; commands = 0; octets = 0; lost = 0; last = 0 }
+-- a tally with nothing counted, whatever its last drop number, which is of no account
+abbrev pub emptyTally : (drops : ℕ) → Tally
+emptyTally d = record { records = 0; received = 0; commands = 0; octets = 0; lost = 0; last = d }
 
 -- updates one after another, each of the tally that the last left, up to the first refusal
 abbrev pub onUpdate : (Tally → Answer Tally) → Answer Tally → Answer Tally
@@ -47,15 +47,15 @@ abbrev pub lastDrops : (drops : ℕ) → List Entry → ℕ
 lastDrops d [] = d
 lastDrops d (e ∷ es) = lastDrops (e .drops) es
 
--- the counts and sums of a list, and its last drop number
-pub record Counts (es : List Entry) (t : Tally) : Type 0 where
+-- the counts and sums of a list, and its last drop number; of no records, the one that was there
+pub record Counts (drops : ℕ) (es : List Entry) (t : Tally) : Type 0 where
   pub records : t .records ≡ length es
   pub received : t .received ≡ countOf (λ (e : Entry). received (e .flags)) es
   pub commands : t .commands ≡ countOf (λ (e : Entry). command (e .flags)) es
   pub octets : t .octets ≡ sumOf (λ (e : Entry). e .included) es
   pub lost : t .lost ≡ differences es
-  pub last : t .last ≡ lastDrops 0 es
+  pub last : t .last ≡ lastDrops drops es
 
--- tallying the records of a list from an empty tally gives them, where none is refused
+-- tallying the records of a list from any empty tally gives them, where none is refused
 abbrev pub TallyCounts : Type 0
-TallyCounts = (es : List Entry) (t : Tally) → tallied es emptyTally ≡ given t → Counts es t
+TallyCounts = (drops : ℕ) (es : List Entry) (t : Tally) → tallied es (emptyTally drops) ≡ given t → Counts drops es t
