@@ -6,8 +6,6 @@ use lib.ListN.{getD}
 use Rattle.refusals.specs.Refusals.{Answer, refused, given}
 use Rattle.tally_rules.specs.declared.Tally.{Tally}
 use Rattle.tally_rules.specs.declared.Entry.{Entry}
-use Rattle.tally.specs.declared.TallyAnswer.{TallyAnswer}
-use Rattle.tally.specs.declared.Outcome.{Outcome}
 use Rattle.boundary_tally.specs.declared.Done.{Done}
 
 -- the tally of six numbers: records, received, commands, octets included, lost, last drop number (modulo 2^32)
@@ -29,15 +27,6 @@ numbersOf t = t .records ∷ t .received ∷ t .commands ∷ t .octets ∷ t .lo
 -- zalghimo_btsnoop_tally: its parameters, as what a tally is given of a record
 abbrev pub entryOf : (original included flags drops : ℕ) → Entry
 entryOf original included flags drops = record { original = original; included = included; flags = flags; drops = drops }
-
--- what an update's answer says of the tally then: the refusal, or that tally
-abbrev pub answerOf : Tally → TallyAnswer → Answer Tally
-answerOf t (TallyAnswer.Refused r) = refused (r .number) (r .place)
-answerOf t TallyAnswer.Done = given t
-
--- what an outcome says
-abbrev pub outcomeSays : Outcome → Answer Tally
-outcomeSays o = answerOf (o .tally) (o .answer)
 
 -- zalghimo_done
 abbrev pub doneRow : Answer Tally → Done

@@ -1,7 +1,8 @@
 // The struct of the C boundary for the tally, and the six numbers that a tally is lent as. Kind 0 is a refusal, 1 an
 // update done.
 ghost use mathlib.Core.Path.{_≡_};
-ghost use Rattle.boundary_tally.specs.Rows.{tallyOf, numbersOf, outcomeSays, doneRow, tallyAfter};
+ghost use Rattle.tally.specs.Says.{outcomeSays};
+ghost use Rattle.boundary_tally.specs.Rows.{tallyOf, numbersOf, doneRow, tallyAfter};
 use tally::Outcome;
 use tally::TallyAnswer;
 use tally_rules::Tally;

@@ -1,7 +1,8 @@
 // The running tally over records: an update by value, and the tally lent to it and changed in place.
 ghost use mathlib.Core.Path.{_≡_};
-ghost use Rattle.tally_rules.specs.Tally.{oneIf, lostBy, updating, afterUpdate};
-ghost use Rattle.tally.specs.Says.{AnswerSays, UpdatedSays, sumsFit};
+ghost use Prim.Native.Nat.{_+_};
+ghost use Rattle.tally_rules.specs.Tally.{oneIf, lostBy, fits as sumsFit, updating, afterUpdate};
+ghost use Rattle.tally.specs.Says.{answerSays, UpdatedSays};
 use refusals::Refusal;
 use tally_rules::Entry;
 use tally_rules::Tally;
@@ -72,7 +73,7 @@ fn lost_by(tally: Tally, drops: u32) -> u64
 
 // Whether no sum passes 2^64 - 1.
 fn fits(tally: Tally, received: u64, commands: u64, octets: u64, lost: u64) -> bool
-    ensures { λ r. ⌜ r ≡ sumsFit tally received commands octets lost ⌝ }
+    ensures { λ r. ⌜ r ≡ sumsFit (record { records = tally .records + 1; received = tally .received + received; commands = tally .commands + commands; octets = tally .octets + octets; lost = tally .lost + lost; last = tally .last }) ⌝ }
 {
     if u64::MAX - tally.records < 1 {
         return false;
@@ -94,7 +95,7 @@ fn fits(tally: Tally, received: u64, commands: u64, octets: u64, lost: u64) -> b
 
 // Adds a record to a lent tally, changed in place; a refusal leaves it as found.
 pub fn update(tally: &mut Tally, entry: Entry) -> TallyAnswer
-    ensures { λ r. ⌜ AnswerSays (updating (now (tally .entry)) entry) r ⌝ }
+    ensures { λ r. ⌜ answerSays (now (tally .exit)) r ≡ updating (now (tally .entry)) entry ⌝ }
     ensures { λ _. ⌜ now (tally .exit) ≡ afterUpdate (now (tally .entry)) (updating (now (tally .entry)) entry) ⌝ }
 {
     let update = updated(*tally, entry);

@@ -3,7 +3,8 @@
 use mathlib.Core.Path.{sym, ap, _∙_}
 use denote.Ref.{now}
 use Rattle.tally.specs.declared.TallyAnswer.{TallyAnswer}
-use Rattle.boundary_tally.specs.Rows.{answerOf, tallyAfter}
+use Rattle.tally.specs.Says.{answerSays}
+use Rattle.boundary_tally.specs.Rows.{tallyAfter}
 use borrow.Author.Needs.{needs}
 use Rattle.boundary_tally.proofs.put.Statement.{statement}
 use Rattle.boundary_tally.proofs.put.Tie as tie
@@ -23,7 +24,7 @@ returns c = search needs
 returns-2 : tie.Need-returns-2
 returns-2 c =
     let a = c .before .before .before .args in
-    c .numbers-of .ensures ∙ sym (ap (λ (x : TallyAnswer). tallyAfter (now (a .numbers)) (answerOf (a .outcome .tally) x)) (c .before .enum-told2 .given .1))
+    c .numbers-of .ensures ∙ sym (ap (λ (x : TallyAnswer). tallyAfter (now (a .numbers)) (answerSays (a .outcome .tally) x)) (c .before .enum-told2 .given .1))
 
 pub put-spec : {M : Type 1} → statement M
 put-spec = tie.close (tie.spec enum-told enum-told-2 numbers-of-requires returns returns-2)

@@ -111,7 +111,7 @@ module _ {M : Type 1} (𝓤 : URA M) (H : Heap 𝓤) (A : Atoms 𝓤) (W : Given
   exits r n-is said =
       qed W (‵ (fobs γ (T.the-row .coded .code (r .tally))) ∷ ‵ (fbor κ (Body (mem T.the-row) b o γ)) ∷ ‵ (flft κ q) ∷ []) ∵
       suffices ! _ (ends-at 𝓤 H A f.ended stayed (f.clauses 𝓤 H A at-mem run) W (((κ, tt), (q, tt), tt, x, at), tt) (answered (r .answer)) (r .answer) (r .tally, (tt, tt)) (tt, (tt, tt))) $
-      says-both ! (said .1) (said .0) $ nothing ! $ move ! (3 ∷ 0 ∷ []) $ join ! $
+      says-both ! (said .0) (said .1) $ nothing ! $ move ! (3 ∷ 0 ∷ []) $ join ! $
       frame ! $ feqI ! (List Val) (vptr b o ∷ []) (vptr b o ∷ []) refl $ fjoin3 ! $ nothing ! $ owned ! E.the-row (Is E.the-row) (SL.makes E.the-type E′.the-plain 𝓤 H A) e _ e-is $ fjoin ! $ move ! (1 ∷ 0 ∷ []) $ fjoin ! $
       owned ! N.the-row (Is N.the-row) (EL.makes N.the-type N′.the-plain 𝓤 H A) (r .answer) _ n-is $ move ! (1 ∷ 0 ∷ []) $ done !
 

@@ -8,11 +8,19 @@ use borrow.Author.Needs.{needs}
 use Rattle.tally.proofs.updated.Statement.{statement}
 use Rattle.tally.proofs.updated.Tie as tie
 
--- all sums fit where the test holds
-fitting : (c : tie.Then1) → let a = c .before .before .before .before .before .before .before .before .args in Fits (a .tally) (c .before .before .before .before .before .before .one-if .result) (c .before .before .before .before .one-if2 .result) (a .entry .included) (c .before .before .lost-by .result)
+-- where the test holds all sums fit
+fitting : (c : tie.Then1)
+    → Fits (c .before .before .before .before .before .before .before .before .args .tally)
+    (c .before .before .before .before .before .before .one-if .result)
+    (c .before .before .before .before .one-if2 .result)
+    (c .before .before .before .before .before .before .before .before .args .entry .included)
+    (c .before .before .lost-by .result)
 fitting c =
     let a = c .before .before .before .before .before .before .before .before .args in
-    fit (a .tally) (c .before .before .before .before .before .before .one-if .result) (c .before .before .before .before .one-if2 .result) (a .entry .included) (c .before .before .lost-by .result) (sym (c .before .fits2 .ensures) ∙ c .if1 .taken)
+    let received = c .before .before .before .before .before .before .one-if .result in
+    let commands = c .before .before .before .before .one-if2 .result in
+    let lost = c .before .before .lost-by .result in
+    fit (a .tally) received commands (a .entry .included) lost (a .tally .last) (sym (c .before .fits2 .ensures) ∙ c .if1 .taken)
 
 received-requires : tie.Need-received-requires
 received-requires c κs = search needs

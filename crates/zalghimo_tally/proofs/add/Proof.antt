@@ -5,7 +5,6 @@ use denote.Ref.{now}
 use Rattle.tally_rules.specs.declared.Tally.{Tally}
 use Rattle.tally_rules.specs.Tally.{updating}
 use Rattle.boundary_tally.specs.Rows.{entryOf, doneRow, tallyAfter}
-use Rattle.boundary_tally.proofs.OutcomeLaws.{outcome-said}
 use borrow.Author.Needs.{needs}
 use Rattle.zalghimo_tally.proofs.add.Statement.{statement}
 use Rattle.zalghimo_tally.proofs.add.Tie as tie
@@ -28,8 +27,7 @@ returns c =
     let taken = update .before .tally-of in
     let a = update .before .before .before .args in
     let entry = entryOf (a .original) (a .included) (a .flags) (a .drops) in
-    let said = outcome-said (taken .result) (updating (taken .result) entry) (update .updated .result) (update .updated .ensures)
-    ∙ ap (λ (t : Tally). updating t entry) (taken .ensures) in
+    let said = update .updated .ensures .0 ∙ ap (λ (t : Tally). updating t entry) (taken .ensures) in
     (c .row .ensures ∙ ap doneRow said, c .before .put .ensures ∙ ap (tallyAfter (now (a .numbers))) said)
 
 pub add-spec : {M : Type 1} → statement M

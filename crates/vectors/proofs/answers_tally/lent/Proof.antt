@@ -47,7 +47,7 @@ use Rattle.tally_rules.proofs.Entry as E
 use Rattle.tally_rules.proofs.Entry.Laws as E′
 use Rattle.tally.specs.declared.TallyAnswer.{TallyAnswer}
 use Rattle.tally.specs.declared.Outcome.{Outcome}
-use Rattle.tally.specs.Says.{AnswerSays, UpdatedSays}
+use Rattle.tally.specs.Says.{answerSays, UpdatedSays}
 use Rattle.tally.proofs.TallyAnswer as N
 use Rattle.tally.proofs.TallyAnswer.Laws as N′
 use Rattle.tally.proofs.Outcome as O
@@ -163,8 +163,8 @@ module _ {M : Type 1} (𝓤 : URA M) (H : Heap 𝓤) (A : Atoms 𝓤) (W : Given
         calls-at ! fm (Update 𝓤 H A at-mem run) known (to-update α l₃ δ) (and-then ! (load ! (from ! (stop !)) (look ! 4 refl)) (and-then ! (load ! (from ! (stop !)) (look ! 9 refl)) (no-more !))) (λ v.
         use1 W (later (some (λ (r : TallyAnswer). ((‵ (flft (α ∷ []) fullShare) ⊛ ‵ ftrue) ⊛ ‵ (N.the-row .own r (v ∷ []))) ⊛ raw (ensured 𝓤 H A update.ended (update.clauses 𝓤 H A at-mem run) (α ∷ [], tt) (held l₃ δ, (e, tt)) tt r)))) (id⊢ 𝓤 _) $ await ! tt $ pick ! (λ r.
         split ! $ move ! (1 ∷ []) $
-        use1 W (some (λ (ws : Lasts update.ended (α ∷ [], tt) (held l₃ δ, (e, tt))). ‵ (lasts update.ended (α ∷ [], tt) (held l₃ δ, (e, tt)) ws) ⊛ (raw (fact 𝓤 (AnswerSays (updating t e) r)) ⊛ raw (fact 𝓤 (ws .0 ≡ afterUpdate t (updating t e)))))) (id⊢ 𝓤 _) $ pick ! (λ ws.
-        split ! $ fsplit ! $ move ! (2 ∷ []) $ split ! $ heard ! (AnswerSays (updating t e) r) (λ said. heard ! (ws .0 ≡ afterUpdate t (updating t e)) (λ last.
+        use1 W (some (λ (ws : Lasts update.ended (α ∷ [], tt) (held l₃ δ, (e, tt))). ‵ (lasts update.ended (α ∷ [], tt) (held l₃ δ, (e, tt)) ws) ⊛ (raw (fact 𝓤 (answerSays (ws .0) r ≡ updating t e)) ⊛ raw (fact 𝓤 (ws .0 ≡ afterUpdate t (updating t e)))))) (id⊢ 𝓤 _) $ pick ! (λ ws.
+        split ! $ fsplit ! $ move ! (2 ∷ []) $ split ! $ heard ! (answerSays (ws .0) r ≡ updating t e) (λ said. heard ! (ws .0 ≡ afterUpdate t (updating t e)) (λ last.
         -- [the last value; true; the token and the answer; the lender's part; …]
         move ! (2 ∷ []) $ split ! $ move ! (1 ∷ []) $ peeks ! N.the-row (Is N.the-row) (shows 𝓤 H A N.the-row) r (v ∷ []) (λ v-is. drop ! $ split ! $
         land ! (from ! (stop !)) (init ! 9 refl (EL.lawful N.the-type N′.the-laws 𝓤 H A W tt .typed r _ v-is .0)) $
@@ -178,7 +178,7 @@ module _ {M : Type 1} (𝓤 : URA M) (H : Heap 𝓤) (A : Atoms 𝓤) (W : Given
         (init ! 14 refl (SL.lawful O.the-type O′.the-laws 𝓤 H A W .typed (made (ws .0) r) _ (made-is (ws .0) r t′-is (answer-is r v v-is)) .0)) $
         returns ! (look ! 14 refl) $ forget ! 0 refl $ forget ! 3 refl $ forget ! 5 refl $ forget ! 7 refl $ forget ! 10 refl $ forget ! 12 refl $ forget ! 14 refl $
         move ! (14 ∷ 15 ∷ []) $ free1 ! $ move ! (12 ∷ 13 ∷ []) $ free1 ! $ move ! (10 ∷ 11 ∷ []) $ free1 ! $ move ! (0 ∷ 9 ∷ []) $ free1 ! $ move ! (6 ∷ 7 ∷ []) $ free1 ! $ move ! (4 ∷ 5 ∷ []) $ free1 ! $ move ! (2 ∷ 3 ∷ []) $ free1 ! $ free0 ! $
-        keep ! [] $ by ! (exits (made (ws .0) r) (made-is (ws .0) r t′-is (answer-is r v v-is)) (last, said))))))))))))))))))
+        keep ! [] $ by ! (exits (made (ws .0) r) (made-is (ws .0) r t′-is (answer-is r v v-is)) (said, last))))))))))))))))))
 
 module _ {M : Type 1} (𝓤 : URA M) (H : Heap 𝓤) (A : Atoms 𝓤) (W : Given 𝓤 H A) (at-mem : Memory → SProp 𝓤) (run : Routine → Fun 𝓤) where
   lent-walks : (C : Calls 𝓤 H) (Λ : Loops 𝓤 H) → FmC 𝓤 H (W .laws) C → Triple 𝓤 (C #update) (Update 𝓤 H A at-mem run) → Walks 𝓤 H A f.ended stayed (WpFn 𝓤 H C Λ code.function) (f.clauses 𝓤 H A at-mem run)
