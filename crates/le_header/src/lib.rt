@@ -72,7 +72,7 @@ pub fn packet(s: &[u8]) -> &[u8]
     ensures { λ r. ⌜ now r ≡ packetIn (now (s .entry)) ⌝ }
 {
     match read(s) {
-        LeAnswer::Refused(_) => &s[..0],
+        LeAnswer::Refused(_) => octets::part(s, 0, 0),
         LeAnswer::Read { values: _, told: _ } => octets::part(s, HEADER_LENGTH, s.len()),
     }
 }

@@ -18,26 +18,28 @@ read-requires c κs = search needs
 enum-told : tie.Need-enum-told
 enum-told c = search needs
 
-slice-aggregate-result : tie.Need-slice-aggregate-result
-slice-aggregate-result c = search needs
+part-requires : tie.Need-part-requires
+part-requires c κs = search needs
 
 enum-told-2 : tie.Need-enum-told-2
 enum-told-2 c = search needs
 
-part-requires : tie.Need-part-requires
-part-requires c κs = search needs
+part-requires-2 : tie.Need-part-requires-2
+part-requires-2 c κs = search needs
 
 returns : tie.Need-returns
+unfolding part
 returns c =
     let s = now (c .before .before .before .before .before .args .s) in
-    sym (ap (packetOf s) (sym (c .before .before .before .read .ensures) ∙ ap leSays (c .before .enum-told .given .1)))
+    c .part .ensures
+    ∙ sym (ap (packetOf s) (sym (c .before .before .before .read .ensures) ∙ ap leSays (c .before .enum-told .given .1)))
 
 returns-2 : tie.Need-returns-2
 unfolding part
 returns-2 c =
     let s = now (c .before .before .before .before .before .args .s) in
     let rest = take-all (length s) (drop headerLength s) (omega (arith, length-drop headerLength s)) in
-    c .part .ensures
+    c .part2 .ensures
     ∙ rest
     ∙ sym (ap (packetOf s) (sym (c .before .before .before .read .ensures) ∙ ap leSays (c .before .enum-told2 .given .1)))
 
@@ -47,8 +49,8 @@ packet-spec =
     (tie.spec
     read-requires
     enum-told
-    slice-aggregate-result
-    enum-told-2
     part-requires
+    enum-told-2
+    part-requires-2
     returns
     returns-2)
