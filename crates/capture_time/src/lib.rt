@@ -3,13 +3,18 @@ ghost use Prim.Native.Nat.{_<_};
 ghost use mathlib.Core.Path.{_≡_};
 ghost use mathlib.Core.Bool.{false};
 ghost use Rattle.refusals.specs.Refusals.{given};
-ghost use Rattle.capture_time.specs.Time.{inexpressible, perSecond, timeOf, belowRange, aboveRange, reading, fieldOf, unwritable, writing};
+ghost use Rattle.capture_time.specs.Time.{perSecond, timeOf, belowRange, aboveRange, reading, fieldOf, unwritable, writing};
 ghost use Rattle.capture_time.specs.Answers.{timeSays, fieldSays};
 use refusals::Refusal;
 
 // A time cannot be expressed.
 pub const INEXPRESSIBLE: u32 = 14;
 
+// Its refusal, which speaks of no place.
+const REFUSAL: Refusal = Refusal {
+    number: INEXPRESSIBLE,
+    place: 0,
+};
 // C of document 01: the field at which Unix time starts.
 const UNIX_EPOCH: i64 = 0x00DC_DDB3_0F2F_8000;
 // C in seconds.
@@ -41,16 +46,6 @@ pub enum FieldAnswer {
     Field(i64),
 }
 
-// The refusal of a time that cannot be expressed.
-fn refused() -> Refusal
-    ensures { λ r. ⌜ (r .number ≡ inexpressible) × (r .place ≡ 0) ⌝ }
-{
-    Refusal {
-        number: INEXPRESSIBLE,
-        place: 0,
-    }
-}
-
 // The time of so many Unix microseconds: seconds rounded down, and the microseconds above them.
 fn time_of(unix_microseconds: i64) -> TimeAnswer
     ensures { λ r. ⌜ timeSays r ≡ given (timeOf «unix_microseconds») ⌝ }
@@ -75,7 +70,7 @@ pub fn read_time(field: i64) -> TimeAnswer
     ensures { λ r. ⌜ timeSays r ≡ reading field ⌝ }
 {
     if field < EARLIEST_FIELD {
-        TimeAnswer::Refused(refused())
+        TimeAnswer::Refused(REFUSAL)
     } else {
         time_of(field - UNIX_EPOCH)
     }
@@ -124,7 +119,7 @@ pub fn write_time(seconds: i64, microseconds: u32) -> FieldAnswer
     ensures { λ r. ⌜ fieldSays r ≡ writing seconds microseconds ⌝ }
 {
     if unwritable(seconds, microseconds) {
-        FieldAnswer::Refused(refused())
+        FieldAnswer::Refused(REFUSAL)
     } else {
         FieldAnswer::Field(field_of(seconds, microseconds))
     }

@@ -1,20 +1,16 @@
 -- `capture_time::write_time` meets its contract: a time that cannot be written is refused, and any other has its field.
-use mathlib.Core.Path.{_≡_, ap, ap₂, sym, _∙_}
-use borrow.Author.Needs.{needs}
+use mathlib.Core.Path.{_≡_, ap, sym, _∙_}
 use lib.IntN.{ℤ}
 use mir.Facts.{toZ-ofZ}
 use Rattle.twos_complement.proofs.Signs.{kept}
-use Rattle.refusals.specs.Refusals.{refused, given}
+use Rattle.refusals.specs.Refusals.{given}
 use Rattle.capture_time.specs.Time.{fieldOf, unwritable}
 use Rattle.capture_time.proofs.Laws.{writing-refused, writing-given, writable}
 use Rattle.capture_time.proofs.write_time.Statement.{statement}
 use Rattle.capture_time.proofs.write_time.Tie as tie
 
 unwritable-requires : tie.Need-unwritable-requires
-unwritable-requires c κs = search needs
-
-refused-requires : tie.Need-refused-requires
-refused-requires c κs = search needs
+unwritable-requires c κs = tt
 
 -- what `unwritable` tells
 told : (c : tie.After-unwritable)
@@ -28,9 +24,8 @@ field-of-requires c κs = sym (c .before .unwritable .ensures) ∙ c .if1 .left
 
 returns : tie.Need-returns
 returns c =
-    let a = c .before .before .before .args in
-    ap₂ refused (c .refused .ensures .0) (c .refused .ensures .1)
-    ∙ sym (writing-refused (a .seconds) (a .microseconds) (told (c .before .before) ∙ c .before .if1 .taken))
+    let a = c .before .before .args in
+    sym (writing-refused (a .seconds) (a .microseconds) (told (c .before) ∙ c .if1 .taken))
 
 returns-2 : tie.Need-returns-2
 returns-2 c =
@@ -43,4 +38,4 @@ returns-2 c =
 
 pub write-time-spec : {M : Type 1} → statement M
 write-time-spec =
-    tie.close (tie.spec unwritable-requires refused-requires field-of-requires returns returns-2)
+    tie.close (tie.spec unwritable-requires field-of-requires returns returns-2)

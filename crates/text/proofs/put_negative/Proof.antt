@@ -1,7 +1,6 @@
 -- `text::put_negative` meets its contract: with room the sign is put and the digits behind it, without it nothing.
--- Assumes nothing.
 use native.Mathlib.Omega.{arith}
-use mathlib.Core.Path.{sym, ap, _∙_}
+use mathlib.Core.Path.{refl, sym, ap, _∙_}
 use Prim.Native.Nat.{_+_, _≤_, _<_}
 use lib.ListN.{length}
 use denote.Ref.{now}
@@ -23,7 +22,7 @@ add-decimal : tie.Need-add-decimal
 add-decimal c = search needs
 
 decimal-requires : tie.Need-decimal-requires
-decimal-requires c κs = search needs
+decimal-requires c κs = tt
 
 add-size : tie.Need-add-size
 add-size c =
@@ -31,13 +30,13 @@ add-size c =
     omega arith
 
 has-room-requires : tie.Need-has-room-requires
-has-room-requires c κs = search needs
+has-room-requires c κs = tt
 
 slice-aggregate-put : tie.Need-slice-aggregate-put
-slice-aggregate-put c = search needs
+slice-aggregate-put c = refl
 
 put-requires : tie.Need-put-requires
-put-requires c κs = search needs
+put-requires c κs = tt
 
 add-put : tie.Need-add-put
 add-put c =
@@ -45,13 +44,15 @@ add-put c =
     omega arith
 
 array-share-prefix-text : tie.Need-array-share-prefix-text
-array-share-prefix-text c = search needs
+array-share-prefix-text c =
+    c .before .before .before .before .before .before .before .before .decimal .ensures .0 .0
 
 slice-aggregate-put-2 : tie.Need-slice-aggregate-put-2
-slice-aggregate-put-2 c = search needs
+slice-aggregate-put-2 c =
+    c .before .before .before .before .before .before .before .before .before .decimal .ensures .0 .1
 
 put-requires-2 : tie.Need-put-requires-2
-put-requires-2 c κs = search needs
+put-requires-2 c κs = tt
 
 same-length : tie.Need-same-length
 same-length c = search needs

@@ -28,7 +28,7 @@ cast-put : tie.Need-cast-put
 cast-put c = let n = above (c .before) in casts (n .rest) (n .itself) (record { fits = n .fits })
 
 put-requires : tie.Need-put-requires
-put-requires c κs = search needs
+put-requires c κs = tt
 
 same-length : tie.Need-same-length
 same-length c = search needs
