@@ -1,5 +1,6 @@
 // The C boundary: each function asks nothing of its caller beyond valid pointers and lengths, and returns a struct of
-// 64-bit numbers by value. include/zalghimo.h declares them for C.
+// 64-bit numbers by value. include/zalghimo.h declares them for C. Each exports a function of the crate of its family,
+// with the same parameters and promise, so that a wrong call is tried there and not among all of them.
 ghost use mathlib.Core.Path.{_≡_};
 ghost use lib.ListN.{length};
 ghost use Rattle.btsnoop_rules.specs.Header.{headerAt};
