@@ -9,13 +9,13 @@ use Rattle.boundary_le.proofs.dependent_number.Statement.{statement}
 use Rattle.boundary_le.proofs.dependent_number.Tie as tie
 
 enum-known-dependent : tie.Need-enum-known-dependent
-enum-known-dependent c = search needs
+enum-known-dependent c = c .match .keys1
 
 kind-number-requires : tie.Need-kind-number-requires
 kind-number-requires c κs = search needs
 
 enum-known-dependent-2 : tie.Need-enum-known-dependent-2
-enum-known-dependent-2 c = search needs
+enum-known-dependent-2 c = c .match .keys2
 
 bit-requires : tie.Need-bit-requires
 bit-requires c κs = search needs

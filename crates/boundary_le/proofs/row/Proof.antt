@@ -9,13 +9,13 @@ use Rattle.boundary_le.proofs.row.Statement.{statement}
 use Rattle.boundary_le.proofs.row.Tie as tie
 
 enum-known-answer : tie.Need-enum-known-answer
-enum-known-answer c = search needs
+enum-known-answer c = c .match .keys1
 
 cast-t6 : tie.Need-cast-t6
 cast-t6 c = search needs
 
 enum-known-answer-2 : tie.Need-enum-known-answer-2
-enum-known-answer-2 c = search needs
+enum-known-answer-2 c = c .match .keys2
 
 read-row-requires : tie.Need-read-row-requires
 read-row-requires c κs = search needs

@@ -9,13 +9,13 @@ use Rattle.boundary_tally.proofs.row.Statement.{statement}
 use Rattle.boundary_tally.proofs.row.Tie as tie
 
 enum-known-answer : tie.Need-enum-known-answer
-enum-known-answer c = search needs
+enum-known-answer c = c .match .keys1
 
 cast-t5 : tie.Need-cast-t5
 cast-t5 c = search needs
 
 enum-told : tie.Need-enum-told
-enum-told c = search needs
+enum-told c = c .match .keys2
 
 returns : tie.Need-returns
 returns c =

@@ -16,13 +16,13 @@ read-requires : tie.Need-read-requires
 read-requires c κs = search needs
 
 enum-told : tie.Need-enum-told
-enum-told c = search needs
+enum-told c = c .match .keys1
 
 part-requires : tie.Need-part-requires
 part-requires c κs = search needs
 
 enum-told-2 : tie.Need-enum-told-2
-enum-told-2 c = search needs
+enum-told-2 c = c .match .keys2
 
 part-requires-2 : tie.Need-part-requires-2
 part-requires-2 c κs = search needs

@@ -1,18 +1,17 @@
 -- `le_ranges::refusal` meets its contract: each arm has the number and the place of its fault.
 -- Assumes nothing.
 use mathlib.Core.Path.{refl}
-use borrow.Author.Needs.{needs}
 use Rattle.le_ranges.proofs.refusal.Statement.{statement}
 use Rattle.le_ranges.proofs.refusal.Tie as tie
 
 enum-told : tie.Need-enum-told
-enum-told c = search needs
+enum-told c = c .match .keys1
 
 enum-told-2 : tie.Need-enum-told-2
-enum-told-2 c = search needs
+enum-told-2 c = c .match .keys2
 
 enum-told-3 : tie.Need-enum-told-3
-enum-told-3 c = search needs
+enum-told-3 c = c .match .keys3
 
 returns : tie.Need-returns
 returns c = rw (c .enum-told .given .1) (refl, refl)
