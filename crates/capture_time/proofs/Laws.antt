@@ -18,7 +18,7 @@ use Rattle.capture_time.proofs.Signed.{sub-down, sub-under}
 -- ---- a difference and the range
 
 -- below −2^63, or not
-pub difference-below : (a b : ℕ) → a + signedLimit < b → belowRange (subℕ a b) ≡ true
+difference-below : (a b : ℕ) → a + signedLimit < b → belowRange (subℕ a b) ≡ true
 difference-below a b h =
     ap belowRange (sub-under a b (omega arith)) ∙ lt-ltb (signedLimit - 1) (b - suc a) (omega arith)
 
@@ -28,7 +28,7 @@ not-below a b h true e =
     ap belowRange (sub-under a b l) ∙ le-ltb (signedLimit - 1) (b - suc a) (omega arith)
 not-below a b h false e = ap belowRange (sub-down a b (ltb-false a b e))
 
-pub difference-not-below : (a b : ℕ) → b ≤ a + signedLimit → belowRange (subℕ a b) ≡ false
+difference-not-below : (a b : ℕ) → b ≤ a + signedLimit → belowRange (subℕ a b) ≡ false
 difference-not-below a b h = not-below a b h (ltb a b) refl
 
 -- not above 2^63 − 1
@@ -37,7 +37,7 @@ not-above a b h true e = ap aboveRange (sub-under a b (ltb-true a b e))
 not-above a b h false e =
     ap aboveRange (sub-down a b (ltb-false a b e)) ∙ le-ltb (signedLimit - 1) (a - b) (omega arith)
 
-pub difference-not-above : (a b : ℕ) → a < signedLimit → aboveRange (subℕ a b) ≡ false
+difference-not-above : (a b : ℕ) → a < signedLimit → aboveRange (subℕ a b) ≡ false
 difference-not-above a b h = not-above a b h (ltb a b) refl
 
 -- and within the signed 64-bit range
@@ -134,7 +134,7 @@ module _ (s : ℤ) (u : ℕ) where
   unwritable-by = ap₂ (λ (a b : Bool). a || (b || aboveRange (fieldOf s u)))
 
 -- where neither of two tests holds
-pub neither : (a b : Bool) → a || b ≡ false → (a ≡ false) × (b ≡ false)
+neither : (a b : Bool) → a || b ≡ false → (a ≡ false) × (b ≡ false)
 neither true b e = (e, cc)
 neither false b e = (refl, e)
 
