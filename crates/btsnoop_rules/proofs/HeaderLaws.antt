@@ -12,7 +12,7 @@ use native.Mathlib.Nat.{lt-of-not-le}
 use native.Mathlib.Decide.{decLe}
 use Rattle.refusals.specs.Refusals.{refused, given, shortHeader, identification, version, datalink}
 use Rattle.octets.specs.Numbers.{Order, big, number, octetsOf, octetsAt, numberAt, Octets}
-use Rattle.octets.proofs.Laws.{write-after-read, all-octets, octets-at}
+use Rattle.octets.proofs.Laws.{write-after-read, all-octets, octets-after}
 use Rattle.btsnoop_rules.specs.Header.{headerLength, identificationOctets, versionNumber, served, headerJudged, headerAt}
 use Rattle.btsnoop_rules.proofs.Orders.{header-judged-exactly, header-read-exactly}
 
@@ -36,7 +36,7 @@ module _ (s : List ℕ) where
   pub identified : ((i : ℕ) → getD s i 0 < 256) → numberAt big 8 s 0 ≡ identificationNumber → octetsAt s 0 8 ≡ identificationOctets
   unfolding numberAt
   identified h e =
-      same-number big (octetsAt s 0 8) identificationOctets (octets-at s 0 8 (all-octets s h)) identification-octets refl
+      same-number big (octetsAt s 0 8) identificationOctets (octets-after s 0 0 8 (all-octets s h)) identification-octets refl
       (e ∙ sym is-identification)
 
   pub not-identified : (numberAt big 8 s 0 ≡ identificationNumber → ⊥) → octetsAt s 0 8 ≡ identificationOctets → ⊥

@@ -9,7 +9,7 @@ use lib.ListN.{length, take, drop, take-append-drop}
 use lib.Seq.{take-at, drop-at, drop-drop}
 use Rattle.octets.specs.Numbers.{Order, number, octetsOf, octetsAfter, octetsAt, numberAt, Octets}
 use Rattle.octets.specs.Parts.{part}
-use Rattle.octets.proofs.Laws.{read-after-write, write-after-read, range, written, octets-at}
+use Rattle.octets.proofs.Laws.{read-after-write, write-after-read, range, written, octets-after}
 use Rattle.octets.proofs.PartLaws.{octets-part}
 
 -- the octets of a number are as many as the width says
@@ -46,7 +46,7 @@ module _ (s : List ℕ) (p w q : ℕ) (at : p + w ≡ q) (inside : q ≤ length 
   unfolding numberAt
   number-back order o =
       let xs : List ℕ = octetsAt s p w in
-      let ho : Octets xs = octets-at s p w o in
+      let ho : Octets xs = octets-after s p 0 w o in
       let back : octetsOf order w (number order xs) ≡ xs = rw (length-after s p 0 w) at (write-after-read order xs ho) in
       (octets-front ∙ ap (λ (l : List ℕ). l ++ drop q s) (sym back), rw (length-after s p 0 w) at (range order xs ho))
 

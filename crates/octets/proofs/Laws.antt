@@ -6,7 +6,7 @@ use mathlib.Core.List.{List, [], _∷_, _++_, reverseAux, reverse-reverse}
 use native.Mathlib.Omega.{arith}
 use native.Mathlib.Nat.{pow-succ'}
 use lib.ListN.{length, getD, take, drop, length-reverse}
-use Rattle.octets.specs.Numbers.{Order, little, big, fromLittle, toLittle, ordered, number, octetsOf, octetsAfter, octetsAt, Octets}
+use Rattle.octets.specs.Numbers.{Order, little, big, fromLittle, toLittle, ordered, number, octetsOf, octetsAfter, Octets}
 use Rattle.octets.specs.Claims.{ReadAfterWrite, WriteAfterRead, Range, Written}
 
 -- what a lent slice tells of each index makes its list octets
@@ -42,12 +42,9 @@ octet-at [] i h = omega arith
 octet-at (x ∷ s) zero h = h .0
 octet-at (x ∷ s) (suc i) h = octet-at s i (h .1)
 
-octets-after : (s : List ℕ) (at after n : ℕ) → Octets s → Octets (octetsAfter s at after n)
+pub octets-after : (s : List ℕ) (at after n : ℕ) → Octets s → Octets (octetsAfter s at after n)
 octets-after s at after zero h = tt
 octets-after s at after (suc n) h = (octet-at s (at + after) h, octets-after s at (suc after) n h)
-
-pub octets-at : (s : List ℕ) (at n : ℕ) → Octets s → Octets (octetsAt s at n)
-octets-at s at n h = octets-after s at 0 n h
 
 octets-reverseAux : (s r : List ℕ) → Octets s → Octets r → Octets (reverseAux s r)
 octets-reverseAux [] r h k = k

@@ -13,7 +13,7 @@ use borrow.Author.Tests.{le-leb, eq-eqb}
 use Rattle.refusals.specs.Refusals.{given}
 use Rattle.octets.specs.Numbers.{little, octetsOf, octetsAt, numberAt, Octets}
 use Rattle.octets.specs.Parts.{part, splice}
-use Rattle.octets.proofs.Laws.{write-after-read, range, octets-append, octets-at, octets-take, octets-drop}
+use Rattle.octets.proofs.Laws.{write-after-read, range, octets-append, octets-after, octets-take, octets-drop}
 use Rattle.octets.proofs.PartLaws.{length-part, octets-part}
 use Rattle.radiotap_rules.specs.Rules.{Rules, tableOk, editionTaken, served}
 use Rattle.radiotap_rules.specs.Reading.{fixedLength, lengthIn, fixedHeader, presenceWords, aligned, Field, ended, Walk, shown, fieldsOf}
@@ -146,9 +146,9 @@ header-back s size word o header words =
     let input : size ≤ length s = fixed .inside in
     let low : fixedLength ≤ size = fixed .least in
     let two : octetsOf little 2 size ≡ octetsAt s 2 2 =
-    rw (← fixed .told) (write-after-read little (octetsAt s 2 2) (octets-at s 2 2 o)) in
+    rw (← fixed .told) (write-after-read little (octetsAt s 2 2) (octets-after s 2 0 2 o)) in
     let four : octetsOf little 4 word ≡ octetsAt s 4 4 =
-    rw (← word-back s size word words) (write-after-read little (octetsAt s 4 4) (octets-at s 4 4 o)) in
+    rw (← word-back s size word words) (write-after-read little (octetsAt s 4 4) (octets-after s 4 0 4 o)) in
     let sum : size ≡ fixedLength + (size - fixedLength) = omega arith in
     let rest : List ℕ = part s fixedLength (size - fixedLength) in
     let front : octetsAt s 0 fixedLength ≡ take fixedLength s = octets-part s 0 0 fixedLength (omega arith) in
@@ -225,11 +225,11 @@ module _ (rules : Rules) (edition : ℕ) (s : List ℕ) (size word : ℕ) (fs : 
       let input : size ≤ length s = fixed .inside in
       let low : fixedLength ≤ size = fixed .least in
       let last : lastEnd fixedLength (plan rules taken word) ≤ size = planned .1 in
-      let short : lengthIn s < 256 ^ 2 = range little (octetsAt s 2 2) (octets-at s 2 2 o) in
+      let short : lengthIn s < 256 ^ 2 = range little (octetsAt s 2 2) (octets-after s 2 0 2 o) in
       record {
         known = walk-writable rules taken s size word fs (one .clear) (last-calls-none s size (word ∷ []) (one .words)) ends;
         long = values-long;
-        word32 = rw (← word-back s size word (one .words)) (range little (octetsAt s 4 4) (octets-at s 4 4 o));
+        word32 = rw (← word-back s size word (one .words)) (range little (octetsAt s 4 4) (octets-after s 4 0 4 o));
         octets = octets-planned s fixedLength (plan rules taken word) o;
         short = omega (arith, header-ends rules taken word values ok values-long, fixed .told);
       }
