@@ -85,7 +85,7 @@ fn record_lines(output: &mut [u8], at: usize, input: &[u8]) -> usize
                 packet: _,
                 next: behind,
             } => {
-                next = listing_lines::record_line(output, next, place, numbers);
+                next = record_line::write(output, next, place, numbers);
                 place = behind;
                 count += 1;
             }

@@ -75,8 +75,8 @@ returns-2 c =
 enum-known-numbers : tie.Need-enum-known-numbers Inv-loop μ-loop
 enum-known-numbers c = search needs
 
-record-line-requires : tie.Need-record-line-requires Inv-loop μ-loop
-record-line-requires c κs = search needs
+write-requires : tie.Need-write-requires Inv-loop μ-loop
+write-requires c κs = search needs
 
 add-count : tie.Need-add-count Inv-loop μ-loop
 add-count c =
@@ -96,7 +96,7 @@ loop-again c =
     let arm = c .before .before .before .before .before in
     let a = arm .before .before .before .before .before .before .args in
     let found = sym (arm .before .before .read .ensures) ∙ ap recordSays (arm .numbers .given .1) in
-    let w = c .before .before .record-line .ensures in
+    let w = c .before .before .write .ensures in
     passes (now (a .input)) (now (a .output)) (a .at) (arm .before .before .before .loop .inv) found (w .0) (w .1)
 
 pub record-lines-spec : {M : Type 1} → statement M
@@ -116,7 +116,7 @@ record-lines-spec =
     same-length-2
     returns-2
     enum-known-numbers
-    record-line-requires
+    write-requires
     add-count
     loop-less
     loop-again)

@@ -1,4 +1,4 @@
--- `listing_lines::record_line` meets its contract: the word, the place, the two pairs of numbers and the time are written one behind the other.
+-- `record_line::write` meets its contract: the word, the place, the two pairs of numbers and the time are written one behind the other.
 -- Assumes nothing.
 use native.Mathlib.Omega.{arith}
 use mathlib.Core.Path.{ap, subst, _∙_}
@@ -11,8 +11,8 @@ use Rattle.text.specs.Decimal.{decimal}
 use Rattle.listing_rules.specs.Lines.{fieldsOf, timeFields, recordLine}
 use Rattle.text_lines.specs.Wrote.{Wrote}
 use Rattle.text_lines.proofs.WroteLaws.{wrote-then, wrote-two}
-use Rattle.listing_lines.proofs.record_line.Statement.{statement}
-use Rattle.listing_lines.proofs.record_line.Tie as tie
+use Rattle.record_line.proofs.write.Statement.{statement}
+use Rattle.record_line.proofs.write.Tie as tie
 
 slice-aggregate-word : tie.Need-slice-aggregate-word
 slice-aggregate-word c = search needs
@@ -61,8 +61,8 @@ returns c =
       omega (arith, word .1, place .1, lengths .1, marks .ensures .1, t .ensures .1),
     )
 
-pub record-line-spec : {M : Type 1} → statement M
-record-line-spec =
+pub write-spec : {M : Type 1} → statement M
+write-spec =
     tie.close
     (tie.spec
     slice-aggregate-word

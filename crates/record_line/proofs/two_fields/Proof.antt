@@ -1,10 +1,10 @@
--- `listing_lines::two_fields` meets its contract: the second field is written behind the first.
+-- `record_line::two_fields` meets its contract: the second field is written behind the first.
 -- Assumes nothing.
 use native.Mathlib.Omega.{arith}
 use borrow.Author.Needs.{needs}
 use Rattle.text_lines.proofs.WroteLaws.{wrote-then}
-use Rattle.listing_lines.proofs.two_fields.Statement.{statement}
-use Rattle.listing_lines.proofs.two_fields.Tie as tie
+use Rattle.record_line.proofs.two_fields.Statement.{statement}
+use Rattle.record_line.proofs.two_fields.Tie as tie
 
 field-requires : tie.Need-field-requires
 field-requires c κs = search needs

@@ -1,4 +1,4 @@
--- `listing_lines::time_fields` meets its contract: in each arm the fields are those of the time given.
+-- `record_line::time_fields` meets its contract: in each arm the fields are those of the time given.
 -- Assumes nothing.
 use native.Mathlib.Omega.{arith}
 use mathlib.Core.Path.{sym, subst}
@@ -14,8 +14,8 @@ use Rattle.text.specs.Decimal.{signedDecimal}
 use Rattle.listing_rules.specs.Lines.{tab, fieldsOf, timeFields}
 use Rattle.text_lines.specs.Wrote.{Wrote}
 use Rattle.text_lines.proofs.WroteLaws.{wrote-then}
-use Rattle.listing_lines.proofs.time_fields.Statement.{statement}
-use Rattle.listing_lines.proofs.time_fields.Tie as tie
+use Rattle.record_line.proofs.time_fields.Statement.{statement}
+use Rattle.record_line.proofs.time_fields.Tie as tie
 
 enum-told : tie.Need-enum-told
 enum-told c = search needs
