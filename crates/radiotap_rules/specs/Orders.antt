@@ -1,6 +1,7 @@
 -- Document 01, "Refusal numbers": "Each is given exactly when its condition holds and no earlier one in the order does."
 -- "Radiotap reading: 15, 1, 3, 9; then word by word, for each word 11 before 10; then fields in their order." "Radiotap
--- writing: 15, 18, 19, 13." When each refusal is given, by the numbers in the input. Proofs: proofs/Orders.antt.
+-- writing: 15, 18, 19, 13." When each refusal before the fields and in writing is given, by the numbers in the input.
+-- Proofs: proofs/Orders.antt, proofs/WriteOrders.antt.
 use Prim.Native.Nat.{ℕ, _+_, _≤_, _<_}
 use mathlib.Core.Path.{_≡_}
 use mathlib.Core.Bool.{true, false}
