@@ -3,39 +3,26 @@
 -- Assumes nothing.
 use Prim.Native.Nat.{ℕ, zero, suc, _+_, _-_, _*_, _^_, _≤_, _<_}
 use mathlib.Core.Path.{_≡_, refl, sym, ap, _∙_}
-use mathlib.Core.Bool.{true, false, and-eq-true-iff}
+use mathlib.Core.Bool.{true, and-eq-true-iff}
 use mathlib.Core.List.{List, [], _∷_, _++_, append-nil}
 use native.Mathlib.Omega.{arith}
 use native.Mathlib.Nat.{suc-mul, mul-le-mul-right, div-mul-le-self}
-use native.Mathlib.Decide.{decLe}
 use lib.ListN.{length}
 use lib.Dec.{ltb}
-use borrow.Author.Tests.{leb-true, ltb-true, ne-eqb}
+use borrow.Author.Tests.{leb-true, ltb-true}
 use Rattle.refusals.specs.Refusals.{given}
 use Rattle.octets.specs.Parts.{part, splice}
 use Rattle.octets.proofs.PartLaws.{length-splice, splice-before, splice-behind, part-splice}
-use Rattle.radiotap_rules.specs.Rules.{Row, Rules, rowOf, everyRow, alignmentOk, tableOk, editionTaken}
+use Rattle.radiotap_rules.specs.Rules.{Row, Rules, rowOf, everyRow, tableOk, editionTaken}
 use Rattle.radiotap_rules.specs.Reading.{fixedLength, wordBits, Meaning, nothing, unknownHere, field, meaning, aligned, ended, reading, read}
 use Rattle.radiotap_rules.specs.Table.{ourRules}
 use Rattle.radiotap_rules.specs.Writing.{Planned, withPlan, planFrom, plan, summed, laidFields, headerOctets, writing, written}
 use Rattle.radiotap_rules.specs.Rewriting.{Writable, lastEnd}
 use Rattle.radiotap_rules.specs.Outputs.{sizeWithin, lengthFits, WrittenReadsBack, EveryTableReadsBack}
-use Rattle.radiotap_rules.proofs.TableTests.{every-row, known-some, known-alignment, ours-pass}
+use Rattle.radiotap_rules.proofs.TableTests.{alignment-most, every-row, known-some, known-alignment, ours-pass}
 use Rattle.radiotap_rules.proofs.Planning.{EachRow, each-planned, header-ends}
 use Rattle.radiotap_rules.proofs.WriteOrders.{writable-known, write-exactly}
 use Rattle.radiotap_rules.proofs.ReadBack.{read-back}
-
--- an alignment that passes the test is at most 8
-alignment-most : (a : ℕ) → alignmentOk a ≡ true → a ≤ 8
-alignment-most a ok = go (decLe a 8)
-  where
-    go : Dec (a ≤ 8) → a ≤ 8
-    go (yes l) = l
-    go (no l) =
-        let no : false ≡ true =
-        rw (ne-eqb a 1 (omega arith), ne-eqb a 2 (omega arith), ne-eqb a 4 (omega arith), ne-eqb a 8 (omega arith)) at ok in
-        let z : _≡_ {A = ℕ} 0 1 = cc in
-        absurd (omega arith)
 
 -- a row with an alignment of at most 8 and at most so many octets
 abbrev Small : (most : ℕ) → Row → Type 0

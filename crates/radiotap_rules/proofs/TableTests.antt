@@ -56,6 +56,23 @@ taken-served rules edition ok servedHere = go (eqb edition 0) refl (tested rules
         (le-leb _ _ (test .default), rw (ne-eqb (rules .readingDefault) 0 (λ z. omega (arith, test .some))))
     go false e test = (servedHere, rw e)
 
+-- an alignment that passes its test is above 0
+pub alignment-above : (a : ℕ) → alignmentOk a ≡ true → 1 ≤ a
+alignment-above zero ok = let z : _≡_ {A = ℕ} 0 1 = cc in absurd (omega arith)
+alignment-above (suc a) ok = omega arith
+
+-- and at most 8
+pub alignment-most : (a : ℕ) → alignmentOk a ≡ true → a ≤ 8
+alignment-most a ok = go (decLe a 8)
+  where
+    go : Dec (a ≤ 8) → a ≤ 8
+    go (yes l) = l
+    go (no l) =
+        let no : false ≡ true =
+        rw (ne-eqb a 1 (omega arith), ne-eqb a 2 (omega arith), ne-eqb a 4 (omega arith), ne-eqb a 8 (omega arith)) at ok in
+        let z : _≡_ {A = ℕ} 0 1 = cc in
+        absurd (omega arith)
+
 -- a test that every row passes, and a row that no edition knows, is passed by the row of every field number
 pub every-row : (test : Row → Bool) → test unknown ≡ true → (rs : List Row) (n : ℕ) → everyRow test rs ≡ true
     → test (getD rs n unknown) ≡ true
@@ -85,11 +102,7 @@ module _ (rules : Rules) (edition n : ℕ) where
 
     -- which is above 0
     pub known-aligned : 0 < rowOf rules n .alignment
-    known-aligned = go (rowOf rules n .alignment) known-alignment
-      where
-        go : (a : ℕ) → alignmentOk a ≡ true → 0 < a
-        go zero e = let z : _≡_ {A = ℕ} 0 1 = cc in absurd (omega arith)
-        go (suc a) e = omega arith
+    known-aligned = alignment-above (rowOf rules n .alignment) known-alignment
 
     -- and is the row of one of bits 0 to 28
     pub known-low : n ≤ 28
