@@ -1,4 +1,4 @@
--- A step asked in an edition. Document 01, "Order. Radiotap reading: 15" first, at place 0.
+-- A step asked in an edition: 15, at place 0, comes before all else, as in document 01's order of radiotap reading.
 use Prim.Native.Nat.{ℕ}
 use mathlib.Core.Bool.{cond}
 use mathlib.Core.List.{List}
