@@ -1,7 +1,7 @@
 -- Each refusal is given exactly when its condition holds and no earlier one does: what each case answers, and that every
 -- input is one of the cases.
 -- Assumes nothing.
-use Prim.Native.Nat.{ℕ, _+_, _≤_, _<_}
+use Prim.Native.Nat.{ℕ, _+_}
 use mathlib.Core.Path.{_≡_, refl, sym, _∙_, subst}
 use mathlib.Core.Logic.{_↔_}
 use mathlib.Core.Bool.{Bool, true, false}
@@ -68,7 +68,9 @@ module _ (s : List ℕ) where
 
   -- every input is one of them
   reads : (a : Answer Header) × Reads s a
-  reads = go (ltb (length s) headerLength) refl (in-range (v .channel) (v .flags) .0) (in-range (v .channel) (v .flags) .1) (leb (leastPacket (v .flags)) packet) refl
+  reads =
+      let judged = in-range (v .channel) (v .flags) in
+      go (ltb (length s) headerLength) refl (judged .0) (judged .1) (leb (leastPacket (v .flags)) packet) refl
     where
       go : (l : Bool) → ltb (length s) headerLength ≡ l → (r : Range) → Judged v r → (p : Bool)
           → leb (leastPacket (v .flags)) packet ≡ p → (a : Answer Header) × Reads s a
@@ -100,7 +102,9 @@ module _ (size at : ℕ) (v : Values) (packet : List ℕ) where
 
   -- every write is one of them
   writes : (a : Answer ℕ) × Writes size at v packet a
-  writes = go (in-range (v .channel) (v .flags) .0) (in-range (v .channel) (v .flags) .1) (leb (leastPacket (v .flags)) (length packet)) refl (leb next size) refl
+  writes =
+      let judged = in-range (v .channel) (v .flags) in
+      go (judged .0) (judged .1) (leb (leastPacket (v .flags)) (length packet)) refl (leb next size) refl
     where
       go : (r : Range) → Judged v r → (p : Bool) → leb (leastPacket (v .flags)) (length packet) ≡ p → (o : Bool)
           → leb next size ≡ o → (a : Answer ℕ) × Writes size at v packet a

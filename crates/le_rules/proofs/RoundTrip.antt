@@ -3,7 +3,7 @@
 -- Assumes nothing.
 use Prim.Native.Nat.{ℕ, zero, suc, _+_, _≤_}
 use mathlib.Core.Path.{_≡_, refl, sym, ap, _∙_}
-use mathlib.Core.List.{List, [], _∷_, _++_, append-assoc}
+use mathlib.Core.List.{List, [], _∷_}
 use native.Mathlib.Omega.{arith}
 use lib.ListN.{length, take, drop, length-drop}
 use Rattle.refusals.specs.Refusals.{given}
@@ -91,7 +91,9 @@ read-after-write out at next v packet f w =
     let values = values-read v packet f in
     let behind = drop-octets v packet in
     let header : readingOf s ≡ given (headerOf v) =
-    reading-exactly s (given (headerOf (valuesIn s))) .1 (Reads.accepted (omega arith) (rw values (a .judged)) (rw (values, behind) (a .enough))) ∙ rw values in
+    reading-exactly s (given (headerOf (valuesIn s))) .1
+    (Reads.accepted (omega arith) (rw values (a .judged)) (rw (values, behind) (a .enough)))
+    ∙ rw values in
     record {
       octets = rw (w, ← size) (part-splice out at s (omega arith));
       header = header;

@@ -1,7 +1,7 @@
 -- The sums of an update: when all fit, and what the update then is.
 -- Assumes nothing.
 use Prim.Native.Nat.{ℕ, _+_, _-_, _^_, _≤_, _<_}
-use mathlib.Core.Path.{_≡_, refl, sym, ap, _∙_}
+use mathlib.Core.Path.{_≡_, refl, sym, ap}
 use mathlib.Core.Bool.{Bool, true, false, cond, _&&_}
 use native.Mathlib.Omega.{arith}
 use lib.Dec.{ltb}
@@ -77,21 +77,42 @@ module _ (t : Tally) (r c o l d : ℕ) where
     module _ (received : t .received + r < 2 ^ 64) where
       pub commands-past : 2 ^ 64 ≤ t .commands + c → false ≡ fits sums
       commands-past h =
-          rw (lt-ltb (t .records + 1) (2 ^ 64) records, lt-ltb (t .received + r) (2 ^ 64) received, le-ltb (t .commands + c) (2 ^ 64) h)
+          rw (
+            lt-ltb (t .records + 1) (2 ^ 64) records,
+            lt-ltb (t .received + r) (2 ^ 64) received,
+            le-ltb (t .commands + c) (2 ^ 64) h,
+          )
 
       module _ (commands : t .commands + c < 2 ^ 64) where
         pub octets-past : 2 ^ 64 ≤ t .octets + o → false ≡ fits sums
         octets-past h =
-            rw (lt-ltb (t .records + 1) (2 ^ 64) records, lt-ltb (t .received + r) (2 ^ 64) received, lt-ltb (t .commands + c) (2 ^ 64) commands, le-ltb (t .octets + o) (2 ^ 64) h)
+            rw (
+              lt-ltb (t .records + 1) (2 ^ 64) records,
+              lt-ltb (t .received + r) (2 ^ 64) received,
+              lt-ltb (t .commands + c) (2 ^ 64) commands,
+              le-ltb (t .octets + o) (2 ^ 64) h,
+            )
 
         module _ (octets : t .octets + o < 2 ^ 64) where
           pub lost-past : 2 ^ 64 ≤ t .lost + l → false ≡ fits sums
           lost-past h =
-              rw (lt-ltb (t .records + 1) (2 ^ 64) records, lt-ltb (t .received + r) (2 ^ 64) received, lt-ltb (t .commands + c) (2 ^ 64) commands, lt-ltb (t .octets + o) (2 ^ 64) octets, le-ltb (t .lost + l) (2 ^ 64) h)
+              rw (
+                lt-ltb (t .records + 1) (2 ^ 64) records,
+                lt-ltb (t .received + r) (2 ^ 64) received,
+                lt-ltb (t .commands + c) (2 ^ 64) commands,
+                lt-ltb (t .octets + o) (2 ^ 64) octets,
+                le-ltb (t .lost + l) (2 ^ 64) h,
+              )
 
           pub all-fit : t .lost + l < 2 ^ 64 → true ≡ fits sums
           all-fit h =
-              rw (lt-ltb (t .records + 1) (2 ^ 64) records, lt-ltb (t .received + r) (2 ^ 64) received, lt-ltb (t .commands + c) (2 ^ 64) commands, lt-ltb (t .octets + o) (2 ^ 64) octets, lt-ltb (t .lost + l) (2 ^ 64) h)
+              rw (
+                lt-ltb (t .records + 1) (2 ^ 64) records,
+                lt-ltb (t .received + r) (2 ^ 64) received,
+                lt-ltb (t .commands + c) (2 ^ 64) commands,
+                lt-ltb (t .octets + o) (2 ^ 64) octets,
+                lt-ltb (t .lost + l) (2 ^ 64) h,
+              )
 
 -- what the first record of a tally and a later one add to lost
 pub first-lost : (t : Tally) (drops : ℕ) → t .records ≡ 0 → 0 ≡ lostBy t drops

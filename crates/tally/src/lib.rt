@@ -73,7 +73,14 @@ fn lost_by(tally: Tally, drops: u32) -> u64
 
 // Whether no sum passes 2^64 - 1.
 fn fits(tally: Tally, received: u64, commands: u64, octets: u64, lost: u64) -> bool
-    ensures { λ r. ⌜ r ≡ sumsFit (record { records = tally .records + 1; received = tally .received + received; commands = tally .commands + commands; octets = tally .octets + octets; lost = tally .lost + lost; last = tally .last }) ⌝ }
+    ensures { λ r. ⌜ r ≡ sumsFit (record {
+      records = tally .records + 1;
+      received = tally .received + received;
+      commands = tally .commands + commands;
+      octets = tally .octets + octets;
+      lost = tally .lost + lost;
+      last = tally .last;
+    }) ⌝ }
 {
     if u64::MAX - tally.records < 1 {
         return false;

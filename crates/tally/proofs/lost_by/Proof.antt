@@ -16,7 +16,9 @@ returns : tie.Need-returns
 returns c = first-lost (c .before .before .args .tally) (c .before .before .args .drops) (c .if1 .taken)
 
 returns-2 : tie.Need-returns-2
-returns-2 c = c .between .ensures ∙ later-lost (c .before .before .before .args .tally) (c .before .before .before .args .drops) (c .before .if1 .left)
+returns-2 c =
+    let a = c .before .before .before .args in
+    c .between .ensures ∙ later-lost (a .tally) (a .drops) (c .before .if1 .left)
 
 pub lost-by-spec : {M : Type 1} → statement M
 lost-by-spec = tie.close (tie.spec between-requires cast-result returns returns-2)

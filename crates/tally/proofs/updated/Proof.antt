@@ -16,11 +16,14 @@ fitting : (c : tie.Then1)
     (c .before .before .before .before .before .before .before .before .args .entry .included)
     (c .before .before .lost-by .result)
 fitting c =
-    let a = c .before .before .before .before .before .before .before .before .args in
-    let received = c .before .before .before .before .before .before .one-if .result in
-    let commands = c .before .before .before .before .one-if2 .result in
-    let lost = c .before .before .lost-by .result in
-    fit (a .tally) received commands (a .entry .included) lost (a .tally .last) (sym (c .before .fits2 .ensures) ∙ c .if1 .taken)
+    let tested = c .before in
+    let lost = tested .before in
+    let commands = lost .before .before in
+    let received = commands .before .before in
+    let a = received .before .before .args in
+    fit (a .tally) (received .one-if .result) (commands .one-if2 .result) (a .entry .included) (lost .lost-by .result)
+    (a .tally .last)
+    (sym (tested .fits2 .ensures) ∙ c .if1 .taken)
 
 received-requires : tie.Need-received-requires
 received-requires c κs = search needs
@@ -60,17 +63,30 @@ add-t14 c = omega (arith, fitting (c .before .before .before .before .before) .l
 
 returns : tie.Need-returns
 returns c =
-    let a = c .before .before .before .before .before .before .before .before .before .before .before .before .before .args in
-    update-done (a .tally) (a .entry) (c .before .before .before .before .before .before .before .before .before .before .before .one-if .result) (c .before .before .before .before .before .before .before .before .before .one-if2 .result) (c .before .before .before .before .before .before .before .lost-by .result)
-    (c .before .before .before .before .before .before .before .before .before .before .before .one-if .ensures ∙ ap oneIf (c .before .before .before .before .before .before .before .before .before .before .before .before .received .ensures)) (c .before .before .before .before .before .before .before .before .before .one-if2 .ensures ∙ ap oneIf (c .before .before .before .before .before .before .before .before .before .before .command .ensures)) (c .before .before .before .before .before .before .before .lost-by .ensures)
-    (sym (c .before .before .before .before .before .before .fits2 .ensures) ∙ c .before .before .before .before .before .if1 .taken)
+    let passed = c .before .before .before .before .before in
+    let tested = passed .before in
+    let lost = tested .before in
+    let commands = lost .before .before in
+    let received = commands .before .before in
+    let a = received .before .before .args in
+    update-done (a .tally) (a .entry) (received .one-if .result) (commands .one-if2 .result) (lost .lost-by .result)
+    (received .one-if .ensures ∙ ap oneIf (received .before .received .ensures))
+    (commands .one-if2 .ensures ∙ ap oneIf (commands .before .command .ensures))
+    (lost .lost-by .ensures)
+    (sym (tested .fits2 .ensures) ∙ passed .if1 .taken)
 
 returns-2 : tie.Need-returns-2
 returns-2 c =
-    let a = c .before .before .before .before .before .before .before .before .args in
-    update-refused (a .tally) (a .entry) (c .before .before .before .before .before .before .one-if .result) (c .before .before .before .before .one-if2 .result) (c .before .before .lost-by .result)
-    (c .before .before .before .before .before .before .one-if .ensures ∙ ap oneIf (c .before .before .before .before .before .before .before .received .ensures)) (c .before .before .before .before .one-if2 .ensures ∙ ap oneIf (c .before .before .before .before .before .command .ensures)) (c .before .before .lost-by .ensures)
-    (sym (c .before .fits2 .ensures) ∙ c .if1 .left)
+    let tested = c .before in
+    let lost = tested .before in
+    let commands = lost .before .before in
+    let received = commands .before .before in
+    let a = received .before .before .args in
+    update-refused (a .tally) (a .entry) (received .one-if .result) (commands .one-if2 .result) (lost .lost-by .result)
+    (received .one-if .ensures ∙ ap oneIf (received .before .received .ensures))
+    (commands .one-if2 .ensures ∙ ap oneIf (commands .before .command .ensures))
+    (lost .lost-by .ensures)
+    (sym (tested .fits2 .ensures) ∙ c .if1 .left)
 
 pub updated-spec : {M : Type 1} → statement M
 updated-spec =
