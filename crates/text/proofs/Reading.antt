@@ -1,11 +1,10 @@
--- The claim of specs/Claims.antt holds: every number's text reads as the number.
--- Assumes nothing.
+-- The claims of specs/Claims.antt hold: every number's text reads as the number, and the known texts compute.
 use Prim.Native.Nat.{ℕ, _+_, _-_, _*_, _/_, _%_, _≤_, _<_}
 use mathlib.Core.Path.{_≡_, refl, _∙_}
 use mathlib.Core.List.{List, [], _∷_, _++_}
 use native.Mathlib.Omega.{arith}
-use Rattle.text.specs.Decimal.{digit, decimal}
-use Rattle.text.specs.Claims.{valueFrom, Digits, NoZeroInFront, DecimalReads}
+use Rattle.text.specs.Decimal.{digit, decimal, signedDecimal}
+use Rattle.text.specs.Claims.{valueFrom, Digits, NoZeroInFront, DecimalReads, Texts}
 use Rattle.text.proofs.DecimalLaws.{by-digits}
 
 -- digits behind digits
@@ -56,3 +55,7 @@ pub decimal-reads : DecimalReads
 decimal-reads n =
     let h : Holds n (decimal n) = by-digits Holds one more n in
     record { digits = h .digits; front = h .front; value = h .value }
+
+pub texts : Texts
+unfolding decimal signedDecimal
+texts = record { text-0 = refl; text-10 = refl; minus-1 = refl; minus-120 = refl }

@@ -1,8 +1,9 @@
--- What decimal text says: read as digits, it is the number. Proof: proofs/Reading.antt.
+-- What decimal text says: read as digits, it is the number; and known texts. Proofs: proofs/Reading.antt.
 use Prim.Native.Nat.{ℕ, _+_, _-_, _*_, _≤_, _<_}
 use mathlib.Core.Path.{_≡_}
 use mathlib.Core.List.{List, [], _∷_}
-use Rattle.text.specs.Decimal.{decimal}
+use lib.IntN.{pos, negsuc}
+use Rattle.text.specs.Decimal.{decimal, signedDecimal}
 
 -- the number that digits give behind one that was read already
 abbrev pub valueFrom : ℕ → List ℕ → ℕ
@@ -28,3 +29,10 @@ pub record Reads (n : ℕ) : Type 0 where
 
 abbrev pub DecimalReads : Type 0
 DecimalReads = (n : ℕ) → Reads n
+
+-- known texts: `0`, `10`, `-1` and `-120`
+pub record Texts : Type 0 where
+  pub text-0 : signedDecimal (pos 0) ≡ 0x30 ∷ []
+  pub text-10 : signedDecimal (pos 10) ≡ 0x31 ∷ 0x30 ∷ []
+  pub minus-1 : signedDecimal (negsuc 0) ≡ 0x2D ∷ 0x31 ∷ []
+  pub minus-120 : signedDecimal (negsuc 119) ≡ 0x2D ∷ 0x31 ∷ 0x32 ∷ 0x30 ∷ []

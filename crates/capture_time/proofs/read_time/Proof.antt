@@ -1,6 +1,6 @@
 -- `capture_time::read_time` meets its contract: a field is refused, or its Unix microseconds fit and give the time.
 use Prim.Native.Nat.{ℕ, _-_}
-use mathlib.Core.Path.{_≡_, refl, ap, ap₂, sym, _∙_}
+use mathlib.Core.Path.{_≡_, ap, ap₂, sym, _∙_}
 use native.Mathlib.Omega.{arith}
 use lib.IntN.{ℤ, negsuc, _+ℤ_}
 use mir.Syntax.{w64}
@@ -25,7 +25,7 @@ fits c =
     unix-fits _ (c .before .args .field) f (held-below f _ (c .if1 .left)) (omega arith)
 
 sub-time-of : tie.Need-sub-time-of
-sub-time-of c = fits-as (less (c .before) _ refl) (fits c)
+sub-time-of c = fits-as (less (c .before) _ (omega arith)) (fits c)
 
 time-of-requires : tie.Need-time-of-requires
 time-of-requires c κs = tt
@@ -39,7 +39,7 @@ returns-2 : tie.Need-returns-2
 returns-2 c =
     let s = c .before .before in
     c .time-of .ensures
-    ∙ ap (λ (z : ℤ). given (timeOf z)) (kept (less s _ refl) (fits (c .before)))
+    ∙ ap (λ (z : ℤ). given (timeOf z)) (kept (less s _ (omega arith)) (fits (c .before)))
     ∙ sym (reading-given _ (s .args .field) (held-below (s .fits .field) _ (c .before .if1 .left)) (omega arith))
 
 pub read-time-spec : {M : Type 1} → statement M
