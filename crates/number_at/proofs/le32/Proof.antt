@@ -38,7 +38,7 @@ shared-slice-read-join32-3 : tie.Need-shared-slice-read-join32-3
 shared-slice-read-join32-3 c = let room = inside (c .before .before .before) in omega arith
 
 add-join32-4 : tie.Need-add-join32-4
-add-join32-4 c = search needs
+add-join32-4 c = let room = inside (c .before .before .before) in record { fits = omega arith }
 
 shared-slice-read-join32-4 : tie.Need-shared-slice-read-join32-4
 shared-slice-read-join32-4 c = let room = inside (c .before .before .before .before) in omega arith
