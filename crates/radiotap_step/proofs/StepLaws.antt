@@ -17,6 +17,7 @@ use Rattle.radiotap_rules.specs.Rules.{Rules, rowOf, knows}
 use Rattle.radiotap_rules.specs.Reading.{fieldPast, wordBits, wordAt, bitAt, rowNumber, bitSet, present, Meaning, nothing, unknownHere, field, meaning, aligned, ended}
 use Rattle.radiotap_rules.specs.Steps.{wordsFor, wordsOf, refusedStep, over, met, metMeaning, metFrom, stepOf}
 use Rattle.radiotap_rules.specs.Answers.{unknownField, lies, layOf}
+use Rattle.radiotap_rules.proofs.Meanings.{number-bit}
 use Rattle.radiotap_bits.specs.Bits.{NextSet}
 use Rattle.radiotap_step.specs.Met.{metLaid}
 
@@ -26,10 +27,6 @@ word-of : (s : List ℕ) (c : Cursor) (i n k : ℕ) → k < n
 word-of s c i zero k h = absurd (omega arith)
 word-of s c i (suc n) zero h = let e : i + 0 ≡ i = omega arith in rw e
 word-of s c i (suc n) (suc k) h = let e : i + suc k ≡ suc i + k = omega arith in rw e (word-of s c (suc i) n k (omega arith))
-
--- the row of a position is that of its bit
-number-bit : (words : List ℕ) (q : ℕ) → rowNumber words q ≡ bitAt q
-number-bit words q = refl
 
 -- a position whose bit is clear, or is 29 or 31, carries no field
 clear-nothing : (rules : Rules) (edition : ℕ) (words : List ℕ) (q : ℕ) → present words q ≡ false → meaning rules edition words q ≡ nothing

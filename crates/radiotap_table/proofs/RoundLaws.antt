@@ -1,6 +1,6 @@
 -- The next multiple of a power of two, by a mask.
 -- Assumes nothing.
-use Prim.Native.Nat.{ℕ, _+_, _-_, _^_, _≤_}
+use Prim.Native.Nat.{ℕ, _+_, _-_, _^_}
 use mathlib.Core.Path.{_≡_, refl, sym, subst}
 use mathlib.Core.Bool.{Bool, true, false, _||_}
 use native.Mathlib.Omega.{arith}
@@ -30,10 +30,6 @@ alignment-power a = go (eqb a 1) (eqb a 2) (eqb a 4) (eqb a 8) (power 0) (power 
     go false false true w p q r s e = r refl
     go false false false w p q r s e = s e
 
--- an alignment is above 0
-pub alignment-above : (a : ℕ) → alignmentOk a ≡ true → 1 ≤ a
-alignment-above a ok = let p = alignment-power a ok in omega (arith, pow-pos (p .0), p .1)
-
 -- the mask of a power of two is the remainder, so what is left is the multiple below
 power-masked : (k at : ℕ) → at + (2 ^ k - 1) - bitAnd (at + (2 ^ k - 1)) (2 ^ k - 1) ≡ aligned (2 ^ k) at
 power-masked k at =
@@ -61,17 +57,3 @@ alignment-filled a last ok =
 -- the same for 32 bits
 pub masked-whole : (at : ℕ) → at + 4294967295 - bitAnd (at + 4294967295) 4294967295 ≡ aligned 4294967296 at
 masked-whole at = power-masked 32 at
-
--- an alignment is at most 8
-pub alignment-most : (a : ℕ) → alignmentOk a ≡ true → a ≤ 8
-alignment-most a = go (eqb a 1) (eqb a 2) (eqb a 4) (eqb a 8) (is 1 (omega arith)) (is 2 (omega arith)) (is 4 (omega arith)) (is 8 (omega arith))
-  where
-    is : (n : ℕ) → n ≤ 8 → eqb a n ≡ true → a ≤ 8
-    is n h e = omega (arith, eqb-true a n e)
-
-    go : (t u v w : Bool) → (t ≡ true → a ≤ 8) → (u ≡ true → a ≤ 8) → (v ≡ true → a ≤ 8) → (w ≡ true → a ≤ 8)
-        → (t || u || v || w) ≡ true → a ≤ 8
-    go true u v w p q r s e = p refl
-    go false true v w p q r s e = q refl
-    go false false true w p q r s e = r refl
-    go false false false w p q r s e = s e

@@ -13,11 +13,11 @@ use Rattle.radiotap_rules.specs.Rules.{Row, Rules, unknown, rowOf, knows, align
 use Rattle.radiotap_rules.specs.Table.{ourRules}
 use Rattle.radiotap_rules.specs.Reading.{aligned}
 use Rattle.radiotap_rules.specs.Answers.{unknownField, lies, layOf}
-use Rattle.radiotap_rules.proofs.TableTests.{known-alignment}
+use Rattle.radiotap_rules.proofs.TableTests.{alignment-above, alignment-most, known-alignment}
 use Rattle.radiotap_table.specs.Rows.{numbersOf, numbersIn}
 use Rattle.radiotap_table.specs.declared.Span.{Span}
 use Rattle.radiotap_table.specs.Says.{SpansRow, SpannedAs, AlignedAs}
-use Rattle.radiotap_table.proofs.RoundLaws.{alignment-above, alignment-most, alignment-filled}
+use Rattle.radiotap_table.proofs.RoundLaws.{alignment-filled}
 
 -- the numbers of a row in a list of rows
 mapped-row : (rs : List Row) (n : ℕ) → n < length rs → getD (map numbersOf rs) n [] ≡ numbersOf (getD rs n unknown)

@@ -15,6 +15,7 @@ use Rattle.radiotap_rules.specs.Rules.{Rules}
 use Rattle.radiotap_rules.specs.Reading.{fixedLength, wordBits}
 use Rattle.radiotap_rules.specs.Answers.{unknownField, layOf}
 use Rattle.radiotap_rules.specs.Writing.{writable, Planned, plan, summed, laid, headerOctets}
+use Rattle.radiotap_rules.proofs.Planning.{length-header}
 use Rattle.radiotap_bits.specs.Bits.{NextSet}
 use Rattle.radiotap_plan.proofs.PlanLaws.{knownOn, planOn, Reached, Met, reached-first, met-unknown, reached-next}
 
@@ -55,16 +56,6 @@ header-parts rules edition word values =
     let fields = laid (plan rules edition word) fixedLength values in
     ap (λ (l : List ℕ). 0 ∷ 0 ∷ l) (sym (append-assoc (octetsOf little 2 (fixedLength + length fields)) (octetsOf little 4 word) fields))
 
--- how long a header is
-pub header-long : (rules : Rules) (edition word : ℕ) (values : List ℕ)
-    → length (headerOctets rules edition word values) ≡ fixedLength + length (laid (plan rules edition word) fixedLength values)
-header-long rules edition word values =
-    let fields = laid (plan rules edition word) fixedLength values in
-    let size = fixedLength + length fields in
-    ap length (header-parts rules edition word values)
-    ∙ length-append (fixedOctets size word) fields
-    ∙ ap (λ (n : ℕ). n + length fields) (fixed-long size word)
-
 -- the fields put where the fixed header ends
 pub header-put : (rules : Rules) (out : List ℕ) (at edition word : ℕ) (values : List ℕ) {l m : List ℕ} {size : ℕ}
     → at ≤ length out → length (headerOctets rules edition word values) ≡ size → l ≡ splice out at (fixedOctets size word)
@@ -72,7 +63,7 @@ pub header-put : (rules : Rules) (out : List ℕ) (at edition word : ℕ) (value
     → m ≡ splice out at (headerOctets rules edition word values)
 header-put rules out at edition word values {l} {m} {size} h sized el em =
     let fields = laid (plan rules edition word) fixedLength values in
-    let whole : fixedLength + length fields ≡ size = sym (header-long rules edition word values) ∙ sized in
+    let whole : fixedLength + length fields ≡ size = sym (length-header rules edition word values) ∙ sized in
     em
     ∙ ap (λ (o : List ℕ). splice o (at + fixedLength) fields) el
     ∙ ap (λ (n : ℕ). splice (splice out at (fixedOctets size word)) (at + n) fields) (sym (fixed-long size word))
@@ -147,7 +138,7 @@ module _ (rules : Rules) (out₀ : List ℕ) (place edition word : ℕ) (values 
       filled-fits room =
           omega (
             arith,
-            header-long rules edition word values,
+            length-header rules edition word values,
             ap length (f .all ∙ ap (λ (l : List ℕ). f .done ++ l) fields-split),
             length-append (f .done) (gap ++ (value ++ behind)),
             length-append gap (value ++ behind),
@@ -199,7 +190,7 @@ module _ (rules : Rules) (out₀ : List ℕ) (place edition word : ℕ) (values 
         ∙ length-splice out₀ (place + fixedLength) (f .done)
         (omega (
           arith,
-          header-long rules edition word values,
+          length-header rules edition word values,
           ap length (f .all),
           length-append (f .done) (laid (planOn rules edition word bit) at (drop used values)),
         ))

@@ -4,25 +4,13 @@ use Prim.Native.Nat.{ℕ, _+_, _≤_, _<_}
 use mathlib.Core.Path.{_≡_, refl, sym, ap, _∙_}
 use mathlib.Core.Bool.{true, false}
 use mathlib.Core.List.{List}
-use native.Mathlib.Omega.{arith}
 use lib.ListN.{length}
 use borrow.Author.Tests.{le-leb, lt-leb, eq-eqb, ne-eqb}
 use Rattle.refusals.specs.Refusals.{Answer, refused, given, afterWrite, noRoom}
 use Rattle.octets.specs.Parts.{splice}
-use Rattle.radiotap_rules.specs.Rules.{Rules, tableOk, editionTaken, served}
-use Rattle.radiotap_rules.specs.Reading.{editionAbove, fixedLength}
+use Rattle.radiotap_rules.specs.Rules.{Rules, editionTaken, served}
+use Rattle.radiotap_rules.specs.Reading.{editionAbove}
 use Rattle.radiotap_rules.specs.Writing.{unknownBit, valuesLength, writable, plan, summed, headerOctets, writing, written}
-use Rattle.radiotap_rules.specs.Rewriting.{lastEnd}
-use Rattle.radiotap_rules.proofs.Planning.{plan-aligned, length-laid}
-use Rattle.radiotap_write.proofs.PutLaws.{header-long}
-
--- a header with values of the summed length ends at the last field
-pub header-ends : (rules : Rules) (edition word : ℕ) (values : List ℕ) → tableOk rules ≡ true
-    → length values ≡ summed (plan rules edition word)
-    → length (headerOctets rules edition word values) ≡ lastEnd fixedLength (plan rules edition word)
-header-ends rules edition word values ok long =
-    header-long rules edition word values
-    ∙ length-laid fixedLength (plan rules edition word) values (plan-aligned rules edition word ok) (omega arith)
 
 -- writing in an edition that is taken for `e`
 module _ (rules : Rules) (out : List ℕ) (at edition word : ℕ) (values : List ℕ) (e : ℕ) (taken : e ≡ editionTaken (rules .writingDefault) edition) where

@@ -16,18 +16,6 @@ pub chosen : {A : Type 0} (t : Bool) (n q : ℕ) {x : Answer A} {a : A} → cond
 chosen true n q e = (refl, e)
 chosen false n q e = let z : _≡_ {A = ℕ} 0 1 = cc in absurd (omega arith)
 
--- a test's refusal is given exactly when the test fails, where nothing behind the test gives the same
-pub refused-here : {A : Type 0} (t : Bool) (n q : ℕ) (x : Answer A) → (x ≡ refused n q → ⊥)
-    → (cond t x (refused n q) ≡ refused n q) ↔ (t ≡ false)
-refused-here true n q x other = (λ e. absurd (other e), λ e. let z : _≡_ {A = ℕ} 0 1 = cc in absurd (omega arith))
-refused-here false n q x other = (λ e. refl, λ e. refl)
-
--- any other answer is given exactly when the test passes and it is the answer behind the test
-pub answered-behind : {A : Type 0} (t : Bool) (n q : ℕ) (x y : Answer A) → (refused n q ≡ y → ⊥)
-    → (cond t x (refused n q) ≡ y) ↔ ((t ≡ true) × (x ≡ y))
-answered-behind true n q x y other = (λ e. (refl, e), λ h. h .1)
-answered-behind false n q x y other = (λ e. absurd (other e), λ h. let z : _≡_ {A = ℕ} 0 1 = cc in absurd (omega arith))
-
 -- one test of an order: its answer where the test fails, and otherwise an order that never gives the same
 pub exactly : {A : Type 0} (t : Bool) (x y : Answer A) {C : Type 0} {rest : Answer A → Type 0} → ((t ≡ false) ↔ C)
     → (x ≡ y → ⊥) → rest x → Exactly y C rest (cond t x y)

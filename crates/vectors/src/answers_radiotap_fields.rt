@@ -9,9 +9,6 @@ use crate::question_lines::low32;
 use radiotap_dbm::DbmAnswer;
 use radiotap_step::Step;
 
-// As many moves as a reader makes: no header has more fields, since it has at most 8 presence words of 32 bits.
-const MOST_MOVES: usize = 256;
-
 // Writes the answer behind its number; tells whether the question is this one.
 pub fn answer(op: u8, q: &[u8], first: &[u8]) -> bool
     ensures { λ r. ⌜ r ≡ isAmong 14 14 op ⌝ }
@@ -34,8 +31,7 @@ fn field(s: &[u8], edition: u32, number: usize) {
     question_lines::numbers(&[r.kind, r.number, r.place, r.word, r.bit, r.start, r.size]);
     question_lines::octets(radiotap_field::octets_of(s, edition, number));
     dbm(radiotap_dbm::read(s, edition, number));
-    let moves = question_lines::least(number, MOST_MOVES);
-    step(radiotap_reader::after_moves(s, edition, moves));
+    step(radiotap_reader::after_moves(s, edition, number));
     step(moved_once(s, edition));
 }
 

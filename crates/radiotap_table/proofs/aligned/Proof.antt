@@ -5,7 +5,8 @@ use mathlib.Core.Path.{_≡_, _∙_}
 use borrow.Author.Needs.{needs}
 use native.Mathlib.Omega.{arith}
 use lib.Bits.{and-le-l}
-use Rattle.radiotap_table.proofs.RoundLaws.{alignment-above, alignment-most, alignment-masked, masked-whole}
+use Rattle.radiotap_rules.proofs.TableTests.{alignment-above, alignment-most}
+use Rattle.radiotap_table.proofs.RoundLaws.{alignment-masked, masked-whole}
 use Rattle.radiotap_table.proofs.aligned.Statement.{statement}
 use Rattle.radiotap_table.proofs.aligned.Tie as tie
 

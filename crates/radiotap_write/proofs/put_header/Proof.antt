@@ -5,7 +5,8 @@ use borrow.Author.Needs.{needs}
 use native.Mathlib.Omega.{arith}
 use denote.Ref.{now}
 use Rattle.radiotap_rules.specs.Table.{ourRules}
-use Rattle.radiotap_write.proofs.PutLaws.{header-long, header-put}
+use Rattle.radiotap_rules.proofs.Planning.{length-header}
+use Rattle.radiotap_write.proofs.PutLaws.{header-put}
 use Rattle.radiotap_write.proofs.put_header.Statement.{statement}
 use Rattle.radiotap_write.proofs.put_header.Tie as tie
 
@@ -13,7 +14,7 @@ put-fixed-requires : tie.Need-put-fixed-requires
 put-fixed-requires c κs =
     let start = c .before .before .before in
     let a = start .args in
-    omega (arith, start .pre .0 .fits, header-long ourRules (a .taken) (a .presence) (now (a .values)))
+    omega (arith, start .pre .0 .fits, length-header ourRules (a .taken) (a .presence) (now (a .values)))
 
 put-fields-requires : tie.Need-put-fields-requires
 put-fields-requires c κs = search needs

@@ -11,9 +11,10 @@ use borrow.Author.Tests.{not-true, not-false, leb-true, leb-false}
 use Rattle.radiotap_rules.specs.Rules.{served}
 use Rattle.radiotap_rules.specs.Table.{ourRules}
 use Rattle.radiotap_rules.specs.Writing.{plan, summed, headerOctets}
+use Rattle.radiotap_rules.proofs.Planning.{header-ends}
 use Rattle.radiotap_plan.specs.declared.Plan.{Plan}
 use Rattle.radiotap_plan.specs.Says.{PlanSays}
-use Rattle.radiotap_write.proofs.WriteLaws.{header-ends, write-edition, write-unknown, write-values, write-room, write-given}
+use Rattle.radiotap_write.proofs.WriteLaws.{write-edition, write-unknown, write-values, write-room, write-given}
 use Rattle.radiotap_write.proofs.write.Statement.{statement}
 use Rattle.radiotap_write.proofs.write.Tie as tie
 
