@@ -1,3 +1,3 @@
-pub mod Exactly
+pub mod Orders
 pub mod WritingLaws
 pub mod RoundTrip

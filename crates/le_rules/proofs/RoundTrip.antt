@@ -16,8 +16,8 @@ use Rattle.octets.proofs.PartLaws.{part-splice, length-splice, splice-before, s
 use Rattle.le_rules.specs.declared.Values.{Values}
 use Rattle.le_rules.specs.Reading.{headerLength, valuesIn, within, leastPacket, Header, headerOf, readingOf, packetOf, packetIn}
 use Rattle.le_rules.specs.Writing.{headerOctets, octetsFor, writing, written}
-use Rattle.le_rules.specs.Exactly.{Judged, Reads, Writes}
-use Rattle.le_rules.proofs.Exactly.{reading-exactly, writing-exactly}
+use Rattle.le_rules.specs.Orders.{Judged, Reads, Writes}
+use Rattle.le_rules.proofs.Orders.{reading-exactly, writing-exactly}
 use Rattle.le_rules.specs.RoundTrip.{Representable, OnlyWritten, ReadAfterWrite, WriteAfterRead}
 
 -- what an accepted write shows

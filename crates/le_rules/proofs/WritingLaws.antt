@@ -8,8 +8,8 @@ use Rattle.refusals.specs.Refusals.{Answer, afterWrite}
 use Rattle.octets.specs.Parts.{splice}
 use Rattle.le_rules.specs.declared.Values.{Values}
 use Rattle.le_rules.specs.Writing.{octetsFor, writing, written}
-use Rattle.le_rules.specs.Exactly.{Writes}
-use Rattle.le_rules.proofs.Exactly.{writing-exactly}
+use Rattle.le_rules.specs.Orders.{Writes}
+use Rattle.le_rules.proofs.Orders.{writing-exactly}
 
 module _ (out : List ℕ) (at : ℕ) (v : Values) (packet : List ℕ) where
   pub outcome : (answer : Answer ℕ) → Writes (length out) at v packet answer

@@ -1,5 +1,5 @@
 pub mod Flags
 pub mod Reading
 pub mod Writing
-pub mod Exactly
+pub mod Orders
 pub mod RoundTrip

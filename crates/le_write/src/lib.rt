@@ -8,7 +8,7 @@ ghost use Rattle.octets.specs.Signed.{unsigned};
 ghost use Rattle.refusals.specs.Refusals.{refused as Refused};
 ghost use Rattle.refusals.specs.Says.{writeSays};
 ghost use Rattle.le_rules.specs.Reading.{faultNumber, within as withinRange};
-ghost use Rattle.le_rules.specs.Exactly.{Judged};
+ghost use Rattle.le_rules.specs.Orders.{Judged};
 ghost use Rattle.le_rules.specs.Writing.{headerOctets, writing, written};
 ghost use Rattle.le_ranges.specs.Says.{faultSays};
 use le_ranges::Fault;

@@ -8,8 +8,8 @@ use borrow.Author.Tests.{le-ltb}
 use Rattle.le_rules.specs.declared.Values.{Values}
 use Rattle.le_rules.specs.Reading.{headerLength, rangeOf, judged, readingOf}
 use Rattle.refusals.specs.Refusals.{refused, shortHeader}
-use Rattle.le_rules.specs.Exactly.{Reads}
-use Rattle.le_rules.proofs.Exactly.{reading-exactly}
+use Rattle.le_rules.specs.Orders.{Reads}
+use Rattle.le_rules.proofs.Orders.{reading-exactly}
 use borrow.Author.Needs.{needs}
 use Rattle.le_header.proofs.read.Statement.{statement}
 use Rattle.le_header.proofs.read.Tie as tie

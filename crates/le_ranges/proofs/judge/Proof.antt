@@ -2,8 +2,8 @@
 -- Assumes nothing.
 use mathlib.Core.Path.{sym}
 use Rattle.le_rules.specs.Reading.{channelAbove, pduTypeReserved, phyReserved, outOf, within}
-use Rattle.le_rules.specs.Exactly.{channelFault, pduTypeFault, phyFault, noFault}
-use Rattle.le_rules.proofs.Exactly.{range-exactly}
+use Rattle.le_rules.specs.Orders.{channelFault, pduTypeFault, phyFault, noFault}
+use Rattle.le_rules.proofs.Orders.{range-exactly}
 use Rattle.le_ranges.proofs.judge.Statement.{statement}
 use Rattle.le_ranges.proofs.judge.Tie as tie
 

@@ -9,7 +9,7 @@ use borrow.Author.Needs.{needs}
 use borrow.Author.Tests.{not-true, not-false, leb-true, leb-false}
 use Rattle.refusals.specs.Refusals.{refused, given, shortPacket, noRoom}
 use Rattle.le_rules.specs.Reading.{headerLength}
-use Rattle.le_rules.specs.Exactly.{Writes}
+use Rattle.le_rules.specs.Orders.{Writes}
 use Rattle.le_rules.proofs.WritingLaws.{outcome}
 use Rattle.le_write.proofs.PutLaws.{packet-behind}
 use Rattle.le_write.proofs.within.Statement.{statement}

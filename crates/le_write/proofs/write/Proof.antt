@@ -6,8 +6,8 @@ use borrow.Author.Needs.{needs}
 use Rattle.le_ranges.specs.Says.{faultSays, rangeSays}
 use Rattle.refusals.specs.Refusals.{refused}
 use Rattle.le_rules.specs.Reading.{faultNumber, outOf, within}
-use Rattle.le_rules.specs.Exactly.{Writes}
-use Rattle.le_rules.proofs.Exactly.{range-exactly}
+use Rattle.le_rules.specs.Orders.{Writes}
+use Rattle.le_rules.proofs.Orders.{range-exactly}
 use Rattle.le_rules.proofs.WritingLaws.{outcome}
 use Rattle.le_write.proofs.write.Statement.{statement}
 use Rattle.le_write.proofs.write.Tie as tie

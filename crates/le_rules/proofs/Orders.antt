@@ -14,7 +14,7 @@ use Rattle.le_rules.specs.declared.Values.{Values}
 use Rattle.le_rules.specs.Flags.{pduType, phy}
 use Rattle.le_rules.specs.Reading.{headerLength, valuesIn, lastChannel, reservedType, reservedPhy, Range, outOf, within, rangeOf, leastPacket, Header, readingOf}
 use Rattle.le_rules.specs.Writing.{writing}
-use Rattle.le_rules.specs.Exactly.{JudgedAs, channelFault, pduTypeFault, phyFault, noFault, RangeExactly, Judged, Reads, ReadingExactly, Writes, WritingExactly}
+use Rattle.le_rules.specs.Orders.{JudgedAs, channelFault, pduTypeFault, phyFault, noFault, RangeExactly, Judged, Reads, ReadingExactly, Writes, WritingExactly}
 
 -- cases that tell what is answered, and one of them that is there: an answer is given exactly in its case
 exactly : {A : Type 0} (Case : A → Type 0) (x : A) → ((a : A) → Case a → x ≡ a) → (a : A) × Case a → (b : A)

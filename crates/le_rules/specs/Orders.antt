@@ -1,5 +1,5 @@
 -- Document 01, "Refusal numbers": each refusal is given exactly when its condition holds and no earlier one in the order
--- does. Proofs: proofs/Exactly.antt.
+-- does. Proofs: proofs/Orders.antt.
 use Prim.Native.Nat.{ℕ, _+_, _≤_, _<_}
 use mathlib.Core.Path.{_≡_}
 use mathlib.Core.Logic.{_↔_}
