@@ -1,3 +1,4 @@
 pub mod ListingLaws
 pub mod WalkLaws
 pub mod Shown
+pub mod Orders
