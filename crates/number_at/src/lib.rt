@@ -86,8 +86,8 @@ fn join16(a: u8, b: u8) -> u16
     (a as u16) * 256 + b as u16
 }
 
-// The number of four octets, the most significant first.
-fn join32(a: u8, b: u8, c: u8, d: u8) -> u32
+// The number of four octets, the most significant first, for those that are known to lie inside an input.
+pub fn join32(a: u8, b: u8, c: u8, d: u8) -> u32
     ensures { λ r. ⌜ r ≡ number big (a ∷ b ∷ c ∷ d ∷ []) ⌝ }
 {
     (((a as u32) * 256 + b as u32) * 256 + c as u32) * 256 + d as u32

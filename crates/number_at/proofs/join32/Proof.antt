@@ -1,36 +1,30 @@
--- `number_at::join32` meets its contract: joined octet by octet the number stays within so many octets, and is the definition's.
+-- `number_at::join32` meets its contract: joined octet by octet the number fits, whichever octets they are, and is the definition's.
 -- Assumes nothing.
-use Prim.Native.Nat.{_+_, _*_, _^_, _<_}
 use mathlib.Core.Path.{sym}
+use native.Mathlib.Omega.{arith}
 use native.Mathlib.Nat.{add-zero}
 use Rattle.octets.specs.Numbers.{number}
-use Rattle.number_at.proofs.Joins.{shifted, joined, fits-in, join}
+use Rattle.number_at.proofs.Joins.{join}
 use Rattle.number_at.proofs.join32.Statement.{statement}
 use Rattle.number_at.proofs.join32.Tie as tie
 
-below2 : (c : tie.Start) → c .args .a * 256 + c .args .b < 256 ^ 2
-below2 c = joined 1 (c .fits .a .fits) (c .fits .b .fits)
-
-below3 : (c : tie.Start) → (c .args .a * 256 + c .args .b) * 256 + c .args .c < 256 ^ 3
-below3 c = joined 2 (below2 c) (c .fits .c .fits)
-
 mul-result : tie.Need-mul-result
-mul-result c = fits-in (shifted 1 (c .fits .a .fits)) tt
+mul-result c = omega (arith, c .fits .a .fits)
 
 add-result : tie.Need-add-result
-add-result c = fits-in (joined 1 (c .fits .a .fits) (c .fits .b .fits)) tt
+add-result c = omega (arith, c .fits .a .fits, c .fits .b .fits)
 
 mul-result-2 : tie.Need-mul-result-2
-mul-result-2 c = fits-in (shifted 2 (below2 c)) tt
+mul-result-2 c = omega (arith, c .fits .a .fits, c .fits .b .fits)
 
 add-result-2 : tie.Need-add-result-2
-add-result-2 c = fits-in (joined 2 (below2 c) (c .fits .c .fits)) tt
+add-result-2 c = omega (arith, c .fits .a .fits, c .fits .b .fits, c .fits .c .fits)
 
 mul-result-3 : tie.Need-mul-result-3
-mul-result-3 c = fits-in (shifted 3 (below3 c)) tt
+mul-result-3 c = omega (arith, c .fits .a .fits, c .fits .b .fits, c .fits .c .fits)
 
 add-result-3 : tie.Need-add-result-3
-add-result-3 c = fits-in (joined 3 (below3 c) (c .fits .d .fits)) tt
+add-result-3 c = omega (arith, c .fits .a .fits, c .fits .b .fits, c .fits .c .fits, c .fits .d .fits)
 
 returns : tie.Need-returns
 unfolding number
