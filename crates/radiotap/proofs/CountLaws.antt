@@ -1,26 +1,24 @@
 -- What a walk that counts the fields has found so far and where it stands, word by word and bit by bit.
 -- Assumes nothing.
-use Prim.Native.Nat.{ℕ, _+_, _-_, _*_, _≤_, _<_}
+use Prim.Native.Nat.{ℕ, _+_, _-_, _*_, _/_, _%_, _^_, _≤_, _<_}
 use mathlib.Core.Path.{_≡_, refl, sym, ap, _∙_, subst₂}
-use mathlib.Core.Bool.{Bool, false, cond}
 use mathlib.Core.List.{List}
 use native.Mathlib.Omega.{arith}
-use lib.ListN.{length}
+use lib.ListN.{length, getD}
 use lib.Dec.{ltb}
 use lib.Bits.{bitAnd, bitOr}
 use lib.Count.{trailingZeros, trailing-of-zero}
-use borrow.Author.Tests.{le-ltb}
+use borrow.Author.Tests.{ltb-true, ltb-false, eq-eqb, ne-eqb}
 use Rattle.octets.specs.Numbers.{little, numberAt}
 use Rattle.octets.specs.Parts.{part}
 use Rattle.refusals.specs.Refusals.{given}
 use Rattle.radiotap_rules.specs.declared.Head.{Head}
 use Rattle.radiotap_rules.specs.declared.Cursor.{Cursor}
 use Rattle.radiotap_rules.specs.Table.{ourRules}
-use Rattle.radiotap_rules.specs.Reading.{fieldPast, mostWords, wordBits, Field, ended, stopped}
-use Rattle.radiotap_rules.specs.Steps.{headAt, firstCursor, refusedStep, over, met, stepOf}
-use Rattle.radiotap_rules.proofs.Words.{words-few, words-inside}
+use Rattle.radiotap_rules.specs.Reading.{fieldPast, bitSet, mostWords, wordBits, wordAt, Field, ended, stopped}
+use Rattle.radiotap_rules.specs.Steps.{headAt, firstCursor, wordsOf, refusedStep, over, met, stepOf}
+use Rattle.radiotap_rules.proofs.Words.{words-few, words-inside, calls-where-followed, words-for}
 use Rattle.radiotap_rules.proofs.Places.{length-told}
-use Rattle.radiotap_head.specs.Says.{wordInside}
 use Rattle.radiotap_rules.proofs.Steps.{headed}
 use Rattle.radiotap_table.specs.declared.Span.{Span}
 use Rattle.radiotap_table.specs.Says.{SpannedAs}
@@ -87,6 +85,30 @@ module _ (edition : ℕ) (s : List ℕ) (known : ℕ) where
     pub here-more : index < c .words
     here-more = omega (arith, f .count, f .more)
 
+  module _ {size words : ℕ} {c : Cursor} {index word last fields : ℕ} (w : AtWord edition s known size words c index word last fields) where
+    -- the word calls for another where one follows
+    calls : bitSet word 31 ≡ ltb (index + 1) words
+    calls =
+        let f = w .sofar in
+        let g = f .found in
+        let here : wordAt (wordBits * index) ≡ index = omega arith in
+        let count : length (g .ws) ≡ words = sym (g .stands .count) ∙ f .count in
+        ap (λ (k : ℕ). bitSet k 31)
+        (sym (w .reached .word (omega (arith, f .more, f .count)))
+        ∙ ap (λ (k : ℕ). getD (wordsOf s c) k 0) here
+        ∙ ap (λ (ws : List ℕ). getD ws index 0) (words-for s size (g .ws) (g .words) c (g .stands .count) (g .stands .bits)))
+        ∙ calls-where-followed s size (g .ws) (g .words) index (omega (arith, f .more))
+        ∙ ap (ltb (index + 1)) count
+
+    -- so it is the last where its bit 31 is clear, and there is another where it is set
+    pub word-last : word / 2 ^ 31 % 2 ≡ 0 → index + 1 ≡ words
+    word-last clear =
+        let none : words ≤ index + 1 = ltb-false (index + 1) words (sym calls ∙ ne-eqb (word / 2 ^ 31 % 2) 1 (λ e. omega arith)) in
+        omega (arith, w .sofar .more)
+
+    pub word-followed : (word / 2 ^ 31 % 2 ≡ 0 → ⊥) → index + 1 < words
+    word-followed set = ltb-true (index + 1) words (sym calls ∙ eq-eqb (word / 2 ^ 31 % 2) 1 (omega arith))
+
   -- what the word carries is left to be shown
   pub word-opens : {size words : ℕ} {c : Cursor} {index word last fields : ℕ} → AtWord edition s known size words c index word last fields
       → {shown unknown : ℕ} → Carries word known shown unknown
@@ -111,24 +133,22 @@ module _ (edition : ℕ) (s : List ℕ) (known : ℕ) where
         ends ourRules edition s c (passes-word edition s known (w .sofar .knowing) (w .stands) (here-more (w .sofar)) none past)
         (omega (arith, w .sofar .count))
 
-    pub counts-word : left ≡ 0 → wordBits ≤ stop → (index + 1 ≡ words → ⊥) → {word : ℕ} → word ≡ wordInside s (index + 1)
+    pub counts-word : left ≡ 0 → wordBits ≤ stop → index + 1 < words → {word : ℕ} → word ≡ numberAt little 4 s (4 + 4 * (index + 1))
         → AtWord edition s known size words c (index + 1) word last fields
-    counts-word none past other told =
+    counts-word none past more told =
         let before = w .sofar in
-        let there : ltb (length s) (4 + 4 * (index + 1) + 4) ≡ false = le-ltb (length s) (4 + 4 * (index + 1) + 4) (omega (arith, before .more, before .inside)) in
         record {
           sofar = record {
             kept = before .kept;
             found = before .found;
             knowing = before .knowing;
             count = before .count;
-            more = omega (arith, before .more);
+            more = more;
             room = before .room;
             inside = before .inside;
           };
           reached =
-              subst₂ (Reached ourRules edition s c) (omega arith)
-              (sym (told ∙ ap (λ (t : Bool). cond t 0 (numberAt little 4 s (4 + 4 * (index + 1)))) there))
+              subst₂ (Reached ourRules edition s c) (omega arith) (sym told)
               (passes-word edition s known (before .knowing) (w .stands) (here-more before) none past);
           free = w .stands .free;
         }

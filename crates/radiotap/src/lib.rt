@@ -60,8 +60,8 @@ pub fn opened(s: &[u8], edition: u32) -> HeadAnswer
     }
 }
 
-// Counts the fields behind a head in the edition taken, and so judges the header whole: word by word, and in each word
-// from one bit that is shown to the next.
+// Counts the fields behind a head in the edition taken, and so judges the header whole: word by word up to the one that
+// calls for no other, and in each word from one bit that is shown to the next.
 fn count(s: &[u8], taken: u32, head: Head) -> ReadAnswer
     requires { ⌜ headAt (now s) ≡ given head ⌝ }
     ensures { λ r. ⌜ readSays r ≡ summarised (getD (now (s .entry)) 1 0) head (outcome 0 (readWords ourRules taken (now (s .entry)) (head .size) (presenceWords (now (s .entry)) (head .size)))) ⌝ }
@@ -70,10 +70,9 @@ fn count(s: &[u8], taken: u32, head: Head) -> ReadAnswer
     let known = radiotap_bits::known(taken);
     let pad = octets::octet(s, 1, 0);
     let size = head.size as usize;
-    let words = head.words as u32;
     let mut index: u32 = 0;
     let mut word = head.first;
-    let mut last = 3 + 4 * words as usize;
+    let mut last = 3 + 4 * head.words as usize;
     let mut fields: usize = 0;
     loop {
         let carried = radiotap_bits::carries(word, known);
@@ -102,8 +101,7 @@ fn count(s: &[u8], taken: u32, head: Head) -> ReadAnswer
                 bit: u32::trailing_zeros(carried.unknown),
             };
         }
-        index += 1;
-        if index == words {
+        if (word >> 31) % 2 == 0 {
             return ReadAnswer::Ended {
                 fields,
                 frame: size,
@@ -111,7 +109,9 @@ fn count(s: &[u8], taken: u32, head: Head) -> ReadAnswer
                 words: head.words,
             };
         }
-        word = radiotap_head::word_at(s, index);
+        index += 1;
+        let at = 4 + 4 * index as usize;
+        word = number_at::join32(s[at + 3], s[at + 2], s[at + 1], s[at + 0]);
     }
 }
 

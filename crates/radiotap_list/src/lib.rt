@@ -93,10 +93,9 @@ fn list(
     let known = radiotap_bits::known(taken);
     let pad = octets::octet(s, 1, 0);
     let size = head.size as usize;
-    let words = head.words as u32;
     let mut index: u32 = 0;
     let mut word = head.first;
-    let mut last = 3 + 4 * words as usize;
+    let mut last = 3 + 4 * head.words as usize;
     let mut fields = 0;
     loop {
         let carried = radiotap_bits::carries(word, known);
@@ -128,8 +127,7 @@ fn list(
                 bit: u32::trailing_zeros(carried.unknown),
             };
         }
-        index += 1;
-        if index == words {
+        if (word >> 31) % 2 == 0 {
             return ReadAnswer::Ended {
                 fields,
                 frame: size,
@@ -137,7 +135,9 @@ fn list(
                 words: head.words,
             };
         }
-        word = radiotap_head::word_at(s, index);
+        index += 1;
+        let at = 4 + 4 * index as usize;
+        word = number_at::join32(s[at + 3], s[at + 2], s[at + 1], s[at + 0]);
     }
 }
 

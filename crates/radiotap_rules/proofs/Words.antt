@@ -10,8 +10,8 @@ use native.Mathlib.Omega.{arith}
 use native.Mathlib.Decide.{decLe, decLt}
 use lib.ListN.{length, getD}
 use lib.Seq.{ext-getD}
-use lib.Dec.{eqb}
-use borrow.Author.Tests.{le-leb, lt-leb, eqb-true}
+use lib.Dec.{ltb, eqb}
+use borrow.Author.Tests.{le-leb, lt-leb, lt-ltb, le-ltb, eqb-true}
 use Rattle.refusals.specs.Refusals.{Answer, refused, given}
 use Rattle.octets.specs.Numbers.{little, numberAt}
 use Rattle.radiotap_rules.specs.declared.Cursor.{Cursor}
@@ -168,12 +168,22 @@ module _ (s : List ℕ) (size : ℕ) (ws : List ℕ) (e : presenceWords s size �
   pub words-inside : 8 ≤ size → 4 + 4 * length ws ≤ size
   words-inside = words-given .inside
 
+  -- a word calls for another where one follows
+  pub calls-where-followed : (k : ℕ) → k < length ws → bitSet (getD ws k 0) 31 ≡ ltb (k + 1) (length ws)
+  calls-where-followed k l = ap (λ (w : ℕ). bitSet w 31) (words-at k l) ∙ go (decLt k (words-given .others))
+    where
+      go : Dec (k < words-given .others) → BitAt s (ltb (k + 1) (length ws)) (4 + 4 * k)
+      go (yes m) = words-given .calls k m ∙ sym (lt-ltb (k + 1) (length ws) (omega (arith, words-given .count)))
+      go (no m) =
+          let there : words-given .others ≡ k = omega (arith, words-given .count) in
+          subst (λ (n : ℕ). BitAt s false (4 + 4 * n)) there (words-given .last)
+          ∙ sym (le-ltb (k + 1) (length ws) (omega (arith, words-given .count)))
+
   -- the last one calls for none
   pub last-calls-none : bitSet (getD ws (length ws - 1) 0) 31 ≡ false
   last-calls-none =
-      let h = words-given in
-      let there : length ws - 1 ≡ h .others = omega (arith, h .count) in
-      rw (there, h .numbers (h .others) (omega (arith, h .count))) (h .last)
+      let some = words-few .0 in
+      calls-where-followed (length ws - 1) (omega arith) ∙ le-ltb (length ws - 1 + 1) (length ws) (omega arith)
 
 -- what is answered of the words, with its condition
 abbrev Answered : List ℕ → (size : ℕ) → Answer (List ℕ) → Type 0

@@ -1,13 +1,15 @@
 -- `radiotap::count` meets its contract: the outer loop keeps what was found up to a word (`AtWord`), the inner one where it stands in the
--- word (`Counting`); each bit that is shown is a field that is met or refused, and behind them the word stops the walk or is passed.
+-- word (`Counting`); each bit that is shown is a field that is met or refused, and behind them the word stops the walk, ends it or is passed.
 -- Assumes nothing.
-use Prim.Native.Nat.{_+_, _-_, _^_, _<_}
+use Prim.Native.Nat.{_+_, _-_, _*_, _^_, _≤_, _<_}
 use native.Mathlib.Omega.{arith}
 use mathlib.Core.Path.{sym, ap}
+use lib.ListN.{length}
 use lib.Bits.{bitOr, and-le-r}
 use lib.Count.{trailingZeros}
 use denote.Ref.{now}
 use borrow.Author.Needs.{needs}
+use Rattle.octets.specs.Numbers.{number, numberAt}
 use Rattle.radiotap_rules.specs.declared.Cursor.{Cursor}
 use Rattle.radiotap_rules.specs.Table.{ourRules}
 use Rattle.radiotap_rules.specs.Reading.{wordBits}
@@ -15,23 +17,23 @@ use Rattle.radiotap_table.specs.Says.{SpannedAs}
 use Rattle.radiotap_table.proofs.RowLaws.{row-spans}
 use Rattle.radiotap.specs.Outcomes.{summarised}
 use Rattle.radiotap.proofs.WalkLaws.{refuses, finishes}
-use Rattle.radiotap.proofs.CountLaws.{AtWord, Counting, word-first, few-words, few-fields, word-opens, stop-inside, stop-none, counts-stop, counts-end, counts-word, counts-small, counts-near, counts-past, counts-next}
+use Rattle.radiotap.proofs.CountLaws.{AtWord, Counting, word-first, few-words, few-fields, word-last, word-followed, word-opens, stop-inside, stop-none, counts-stop, counts-end, counts-word, counts-small, counts-near, counts-past, counts-next}
 use Rattle.radiotap.proofs.count.Statement.{statement}
 use Rattle.radiotap.proofs.count.Tie as tie
 
 abbrev Inv-loop2 : tie.InvT-loop2
-Inv-loop2 s taken head rows known pad size words index word last₀ fields₀ carried left₀ last fields left =
-    (c : Cursor) × Counting taken s known size words c index left (trailingZeros wordBits (carried .unknown)) last fields
+Inv-loop2 s taken head rows known pad size index word last₀ fields₀ carried left₀ last fields left =
+    (c : Cursor) × Counting taken s known size (head .words) c index left (trailingZeros wordBits (carried .unknown)) last fields
 
 abbrev μ-loop2 : tie.MeasureT-loop2
-μ-loop2 s taken head rows known pad size words index word last₀ fields₀ carried left₀ last fields left = left
+μ-loop2 s taken head rows known pad size index word last₀ fields₀ carried left₀ last fields left = left
 
 abbrev Inv-loop : tie.InvT-loop
-Inv-loop s taken head rows known pad size words index₀ word₀ last₀ fields₀ index word last fields =
-    (c : Cursor) × AtWord taken s known size words c index word last fields
+Inv-loop s taken head rows known pad size index₀ word₀ last₀ fields₀ index word last fields =
+    (c : Cursor) × AtWord taken s known size (head .words) c index word last fields
 
 abbrev μ-loop : tie.MeasureT-loop
-μ-loop s taken head rows known pad size words index₀ word₀ last₀ fields₀ index word last fields = words - index
+μ-loop s taken head rows known pad size index₀ word₀ last₀ fields₀ index word last fields = head .words - index
 
 -- the lowest bit left is one of the word's
 small : (c : tie.In-loop2 Inv-loop2 μ-loop2 Inv-loop μ-loop) → trailingZeros wordBits (c .before .loop2 .left) < wordBits
@@ -61,9 +63,6 @@ octet-requires c κs = search needs
 
 cast-size : tie.Need-cast-size Inv-loop2 μ-loop2 Inv-loop μ-loop
 cast-size c = search needs
-
-cast-words : tie.Need-cast-words Inv-loop2 μ-loop2 Inv-loop μ-loop
-cast-words c = search needs
 
 cast-last : tie.Need-cast-last Inv-loop2 μ-loop2 Inv-loop μ-loop
 cast-last c = search needs
@@ -143,32 +142,78 @@ returns-2 c =
     let step = counts-stop (a .taken) (now (a .s)) known w (c .before .before .before .loop2-test .left) inside in
     rw (c .before .before .before .before .before .before .before .before .before .octet .ensures) (sym (ap (summarised _ (a .head)) (finishes ourRules (a .taken) (now (a .s)) 0 (w .sofar .found) step)))
 
-add-index : tie.Need-add-index Inv-loop2 μ-loop2 Inv-loop μ-loop
-add-index c =
-    let a = c .before .before .before .before .before .before .before .before .before .before .before .before .args in
-    let w = c .before .before .before .loop2 .inv .1 in
-    omega (arith, w .sofar .more, few-words (a .taken) (now (a .s)) (c .before .before .before .before .before .before .before .before .before .known .result) (w .sofar))
-
 returns-3 : tie.Need-returns-3 Inv-loop2 μ-loop2 Inv-loop μ-loop
 returns-3 c =
     let a = c .before .before .before .before .before .before .before .before .before .before .before .before .before .args in
     let w = c .before .before .before .before .loop2 .inv .1 in
-    let past = stop-none (a .taken) (now (a .s)) (c .before .before .before .before .before .before .before .before .before .before .known .result) (c .before .if2 .left) in
-    let step = counts-end (a .taken) (now (a .s)) (c .before .before .before .before .before .before .before .before .before .before .known .result) w (c .before .before .before .loop2-test .left) past (c .if3 .taken) in
+    let known = c .before .before .before .before .before .before .before .before .before .before .known .result in
+    let past = stop-none (a .taken) (now (a .s)) known (c .before .if2 .left) in
+    let last = word-last (a .taken) (now (a .s)) known (c .before .before .before .before .before .before .loop .inv .1) (c .if3 .taken) in
+    let step = counts-end (a .taken) (now (a .s)) known w (c .before .before .before .loop2-test .left) past last in
     rw (c .before .before .before .before .before .before .before .before .before .octet .ensures) (sym (ap (summarised _ (a .head)) (finishes ourRules (a .taken) (now (a .s)) 0 (w .sofar .found) step)))
 
-word-at-requires : tie.Need-word-at-requires Inv-loop2 μ-loop2 Inv-loop μ-loop
-word-at-requires c κs = search needs
+-- the word calls for another
+more : (c : tie.Else3 Inv-loop2 μ-loop2 Inv-loop μ-loop) → c .before .before .before .before .before .before .loop .index + 1 < c .before .before .before .before .before .before .before .before .before .before .before .before .before .args .head .words
+more c =
+    let a = c .before .before .before .before .before .before .before .before .before .before .before .before .before .args in
+    word-followed (a .taken) (now (a .s)) (c .before .before .before .before .before .before .before .before .before .before .known .result) (c .before .before .before .before .before .before .loop .inv .1) (c .if3 .left)
+
+-- which lies inside the input
+inside : (c : tie.Else3 Inv-loop2 μ-loop2 Inv-loop μ-loop) → 4 + 4 * (c .before .before .before .before .before .before .loop .index + 1) + 4 ≤ length (now (c .before .before .before .before .before .before .before .before .before .before .before .before .before .args .s))
+inside c = omega (arith, more c, c .before .before .before .before .loop2 .inv .1 .sofar .inside)
+
+add-index : tie.Need-add-index Inv-loop2 μ-loop2 Inv-loop μ-loop
+add-index c =
+    let a = c .before .before .before .before .before .before .before .before .before .before .before .before .before .args in
+    let w = c .before .before .before .before .loop2 .inv .1 in
+    omega (arith, w .sofar .more, few-words (a .taken) (now (a .s)) (c .before .before .before .before .before .before .before .before .before .before .known .result) (w .sofar))
+
+cast-at : tie.Need-cast-at Inv-loop2 μ-loop2 Inv-loop μ-loop
+cast-at c = search needs
+
+mul-at : tie.Need-mul-at Inv-loop2 μ-loop2 Inv-loop μ-loop
+mul-at c = search needs
+
+add-at : tie.Need-add-at Inv-loop2 μ-loop2 Inv-loop μ-loop
+add-at c = search needs
+
+add-join32 : tie.Need-add-join32 Inv-loop2 μ-loop2 Inv-loop μ-loop
+add-join32 c = omega (arith, inside c)
+
+shared-slice-read-join32 : tie.Need-shared-slice-read-join32 Inv-loop2 μ-loop2 Inv-loop μ-loop
+shared-slice-read-join32 c = omega (arith, inside (c .before))
+
+add-join32-2 : tie.Need-add-join32-2 Inv-loop2 μ-loop2 Inv-loop μ-loop
+add-join32-2 c = omega (arith, inside (c .before))
+
+shared-slice-read-join32-2 : tie.Need-shared-slice-read-join32-2 Inv-loop2 μ-loop2 Inv-loop μ-loop
+shared-slice-read-join32-2 c = omega (arith, inside (c .before .before))
+
+add-join32-3 : tie.Need-add-join32-3 Inv-loop2 μ-loop2 Inv-loop μ-loop
+add-join32-3 c = omega (arith, inside (c .before .before))
+
+shared-slice-read-join32-3 : tie.Need-shared-slice-read-join32-3 Inv-loop2 μ-loop2 Inv-loop μ-loop
+shared-slice-read-join32-3 c = omega (arith, inside (c .before .before .before))
+
+add-join32-4 : tie.Need-add-join32-4 Inv-loop2 μ-loop2 Inv-loop μ-loop
+add-join32-4 c = omega (arith, inside (c .before .before .before))
+
+shared-slice-read-join32-4 : tie.Need-shared-slice-read-join32-4 Inv-loop2 μ-loop2 Inv-loop μ-loop
+shared-slice-read-join32-4 c = omega (arith, inside (c .before .before .before .before))
+
+join32-requires : tie.Need-join32-requires Inv-loop2 μ-loop2 Inv-loop μ-loop
+join32-requires c κs = search needs
 
 loop-less : tie.Need-loop-less Inv-loop2 μ-loop2 Inv-loop μ-loop
-loop-less c = omega (arith, c .before .before .before .before .before .loop2 .inv .1 .sofar .more)
+loop-less c = omega (arith, c .before .before .before .before .before .before .before .before .before .loop2 .inv .1 .sofar .more)
 
 loop-again : tie.Need-loop-again Inv-loop2 μ-loop2 Inv-loop μ-loop
+unfolding numberAt number
 loop-again c =
-    let a = c .before .before .before .before .before .before .before .before .before .before .before .before .before .before .args in
-    let w = c .before .before .before .before .before .loop2 .inv .1 in
-    let past = stop-none (a .taken) (now (a .s)) (c .before .before .before .before .before .before .before .before .before .before .before .known .result) (c .before .before .if2 .left) in
-    (_, counts-word (a .taken) (now (a .s)) (c .before .before .before .before .before .before .before .before .before .before .before .known .result) w (c .before .before .before .before .loop2-test .left) past (c .before .if3 .left) (c .word-at .ensures))
+    let a = c .before .before .before .before .before .before .before .before .before .before .before .before .before .before .before .before .before .before .args in
+    let known = c .before .before .before .before .before .before .before .before .before .before .before .before .before .before .before .known .result in
+    let past = stop-none (a .taken) (now (a .s)) known (c .before .before .before .before .before .before .if2 .left) in
+    (_, counts-word (a .taken) (now (a .s)) known (c .before .before .before .before .before .before .before .before .before .loop2 .inv .1) (c .before .before .before .before .before .before .before .before .loop2-test .left) past (more (c .before .before .before .before .before)) (c .join32 .ensures))
 
 pub count-spec : {M : Type 1} → statement M
 count-spec =
@@ -182,7 +227,6 @@ count-spec =
     known-requires
     octet-requires
     cast-size
-    cast-words
     cast-last
     mul-last
     add-last
@@ -202,8 +246,19 @@ count-spec =
     loop2-less
     loop2-again
     returns-2
-    add-index
     returns-3
-    word-at-requires
+    add-index
+    cast-at
+    mul-at
+    add-at
+    add-join32
+    shared-slice-read-join32
+    add-join32-2
+    shared-slice-read-join32-2
+    add-join32-3
+    shared-slice-read-join32-3
+    add-join32-4
+    shared-slice-read-join32-4
+    join32-requires
     loop-less
     loop-again)

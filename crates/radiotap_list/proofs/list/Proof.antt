@@ -1,7 +1,7 @@
 -- `radiotap_list::list` meets its contract: it walks as `radiotap::count` does (`AtWord`, `Counting`), and the loops keep besides that the
 -- list holds the first of the fields met so far, as many as there is room for (`SoFar`); the inner loop for any list that it was made from.
 -- Assumes nothing.
-use Prim.Native.Nat.{ℕ, _+_, _-_, _^_, _<_, min}
+use Prim.Native.Nat.{ℕ, _+_, _-_, _*_, _^_, _≤_, _<_, min}
 use native.Mathlib.Omega.{arith}
 use native.Mathlib.Nat.{zero-min}
 use mathlib.Core.Path.{_≡_, refl, sym, ap, _∙_, subst}
@@ -12,6 +12,7 @@ use lib.Bits.{bitOr, and-le-r}
 use lib.Count.{trailingZeros}
 use denote.Ref.{now}
 use borrow.Author.Needs.{needs}
+use Rattle.octets.specs.Numbers.{number, numberAt}
 use Rattle.radiotap_rules.specs.declared.Cursor.{Cursor}
 use Rattle.radiotap_rules.specs.Table.{ourRules}
 use Rattle.radiotap_rules.specs.Reading.{wordBits}
@@ -21,29 +22,29 @@ use Rattle.radiotap_table.proofs.RowLaws.{row-spans}
 use Rattle.radiotap.specs.Outcomes.{summarised}
 use Rattle.radiotap.proofs.WalkLaws.{head-inside}
 use Rattle.radiotap.proofs.WalkLaws.{refuses as walk-refuses, finishes as walk-finishes}
-use Rattle.radiotap.proofs.CountLaws.{AtWord, Counting, word-first, few-words, few-fields, word-opens, stop-inside, stop-none, counts-stop, counts-end, counts-word, counts-small, counts-near, counts-past, counts-field, counts-next}
+use Rattle.radiotap.proofs.CountLaws.{AtWord, Counting, word-first, few-words, few-fields, word-last, word-followed, word-opens, stop-inside, stop-none, counts-stop, counts-end, counts-word, counts-small, counts-near, counts-past, counts-field, counts-next}
 use Rattle.radiotap_list.proofs.ListLaws.{SoFar, Filled, filled, rebased, begins, keeps-length, refuses, finishes, puts, skips}
 use Rattle.radiotap_list.proofs.list.Statement.{statement}
 use Rattle.radiotap_list.proofs.list.Tie as tie
 
 abbrev Inv-loop2 : tie.InvT-loop2
-Inv-loop2 s taken head rows room out₀ known pad size words index word last₀ fields₀ carried left₀ out last fields left =
+Inv-loop2 s taken head rows room out₀ known pad size index word last₀ fields₀ carried left₀ out last fields left =
     (c : Cursor)
-    × Counting taken s known size words c index left (trailingZeros wordBits (carried .unknown)) last fields
+    × Counting taken s known size (head .words) c index left (trailingZeros wordBits (carried .unknown)) last fields
     × ((base : List ℕ) → Filled ourRules taken s room (firstCursor head) base out₀ (min fields₀ room)
     → SoFar ourRules taken s room (firstCursor head) base out c (min fields room))
 
 abbrev μ-loop2 : tie.MeasureT-loop2
-μ-loop2 s taken head rows room out₀ known pad size words index word last₀ fields₀ carried left₀ out last fields left = left
+μ-loop2 s taken head rows room out₀ known pad size index word last₀ fields₀ carried left₀ out last fields left = left
 
 abbrev Inv-loop : tie.InvT-loop
-Inv-loop s taken head rows room out₀ known pad size words index₀ word₀ last₀ fields₀ out index word last fields =
+Inv-loop s taken head rows room out₀ known pad size index₀ word₀ last₀ fields₀ out index word last fields =
     (c : Cursor)
-    × AtWord taken s known size words c index word last fields
+    × AtWord taken s known size (head .words) c index word last fields
     × SoFar ourRules taken s room (firstCursor head) out₀ out c (min fields room)
 
 abbrev μ-loop : tie.MeasureT-loop
-μ-loop s taken head rows room out₀ known pad size words index₀ word₀ last₀ fields₀ out index word last fields = words - index
+μ-loop s taken head rows room out₀ known pad size index₀ word₀ last₀ fields₀ out index word last fields = head .words - index
 
 -- what the list holds, made from the one lent
 holds : (c : tie.At-loop2 Inv-loop2 μ-loop2 Inv-loop μ-loop)
@@ -83,9 +84,6 @@ octet-requires c κs = search needs
 
 cast-size : tie.Need-cast-size Inv-loop2 μ-loop2 Inv-loop μ-loop
 cast-size c = search needs
-
-cast-words : tie.Need-cast-words Inv-loop2 μ-loop2 Inv-loop μ-loop
-cast-words c = search needs
 
 cast-last : tie.Need-cast-last Inv-loop2 μ-loop2 Inv-loop μ-loop
 cast-last c = search needs
@@ -199,12 +197,6 @@ returns-2 c =
       finishes ourRules (a .taken) (now (a .s)) (a .room) (firstCursor (a .head)) (now (a .out)) (holds (c .before .before .before .before)) step,
     )
 
-add-index : tie.Need-add-index Inv-loop2 μ-loop2 Inv-loop μ-loop
-add-index c =
-    let a = c .before .before .before .before .before .before .before .before .before .before .before .before .args in
-    let w = c .before .before .before .loop2 .inv .1 .sofar in
-    omega (arith, w .more, few-words (a .taken) (now (a .s)) (c .before .before .before .before .before .before .before .before .before .known .result) w)
-
 same-length-3 : tie.Need-same-length-3 Inv-loop2 μ-loop2 Inv-loop μ-loop
 same-length-3 c = stays (c .before .before .before .before)
 
@@ -212,24 +204,76 @@ returns-3 : tie.Need-returns-3 Inv-loop2 μ-loop2 Inv-loop μ-loop
 returns-3 c =
     let a = c .before .before .before .before .before .before .before .before .before .before .before .before .before .args in
     let i = c .before .before .before .before .loop2 .inv in
-    let past = stop-none (a .taken) (now (a .s)) (c .before .before .before .before .before .before .before .before .before .before .known .result) (c .before .if3 .left) in
-    let step = counts-end (a .taken) (now (a .s)) (c .before .before .before .before .before .before .before .before .before .before .known .result) (i .1) (c .before .before .before .loop2-test .left) past (c .if4 .taken) in (
+    let known = c .before .before .before .before .before .before .before .before .before .before .known .result in
+    let past = stop-none (a .taken) (now (a .s)) known (c .before .if3 .left) in
+    let last = word-last (a .taken) (now (a .s)) known (c .before .before .before .before .before .before .loop .inv .1) (c .if4 .taken) in
+    let step = counts-end (a .taken) (now (a .s)) known (i .1) (c .before .before .before .loop2-test .left) past last in (
       rw (c .before .before .before .before .before .before .before .before .before .octet .ensures) (sym (ap (summarised _ (a .head)) (walk-finishes ourRules (a .taken) (now (a .s)) 0 (i .1 .sofar .found) step))),
       finishes ourRules (a .taken) (now (a .s)) (a .room) (firstCursor (a .head)) (now (a .out)) (holds (c .before .before .before .before)) step,
     )
 
-word-at-requires : tie.Need-word-at-requires Inv-loop2 μ-loop2 Inv-loop μ-loop
-word-at-requires c κs = search needs
+-- the word calls for another
+more : (c : tie.Else4 Inv-loop2 μ-loop2 Inv-loop μ-loop) → c .before .before .before .before .before .before .loop .index + 1 < c .before .before .before .before .before .before .before .before .before .before .before .before .before .args .head .words
+more c =
+    let a = c .before .before .before .before .before .before .before .before .before .before .before .before .before .args in
+    word-followed (a .taken) (now (a .s)) (c .before .before .before .before .before .before .before .before .before .before .known .result) (c .before .before .before .before .before .before .loop .inv .1) (c .if4 .left)
+
+-- which lies inside the input
+inside : (c : tie.Else4 Inv-loop2 μ-loop2 Inv-loop μ-loop) → 4 + 4 * (c .before .before .before .before .before .before .loop .index + 1) + 4 ≤ length (now (c .before .before .before .before .before .before .before .before .before .before .before .before .before .args .s))
+inside c = omega (arith, more c, c .before .before .before .before .loop2 .inv .1 .sofar .inside)
+
+add-index : tie.Need-add-index Inv-loop2 μ-loop2 Inv-loop μ-loop
+add-index c =
+    let a = c .before .before .before .before .before .before .before .before .before .before .before .before .before .args in
+    let w = c .before .before .before .before .loop2 .inv .1 .sofar in
+    omega (arith, w .more, few-words (a .taken) (now (a .s)) (c .before .before .before .before .before .before .before .before .before .before .known .result) w)
+
+cast-at : tie.Need-cast-at Inv-loop2 μ-loop2 Inv-loop μ-loop
+cast-at c = search needs
+
+mul-at : tie.Need-mul-at Inv-loop2 μ-loop2 Inv-loop μ-loop
+mul-at c = search needs
+
+add-at : tie.Need-add-at Inv-loop2 μ-loop2 Inv-loop μ-loop
+add-at c = search needs
+
+add-join32 : tie.Need-add-join32 Inv-loop2 μ-loop2 Inv-loop μ-loop
+add-join32 c = omega (arith, inside c)
+
+shared-slice-read-join32 : tie.Need-shared-slice-read-join32 Inv-loop2 μ-loop2 Inv-loop μ-loop
+shared-slice-read-join32 c = omega (arith, inside (c .before))
+
+add-join32-2 : tie.Need-add-join32-2 Inv-loop2 μ-loop2 Inv-loop μ-loop
+add-join32-2 c = omega (arith, inside (c .before))
+
+shared-slice-read-join32-2 : tie.Need-shared-slice-read-join32-2 Inv-loop2 μ-loop2 Inv-loop μ-loop
+shared-slice-read-join32-2 c = omega (arith, inside (c .before .before))
+
+add-join32-3 : tie.Need-add-join32-3 Inv-loop2 μ-loop2 Inv-loop μ-loop
+add-join32-3 c = omega (arith, inside (c .before .before))
+
+shared-slice-read-join32-3 : tie.Need-shared-slice-read-join32-3 Inv-loop2 μ-loop2 Inv-loop μ-loop
+shared-slice-read-join32-3 c = omega (arith, inside (c .before .before .before))
+
+add-join32-4 : tie.Need-add-join32-4 Inv-loop2 μ-loop2 Inv-loop μ-loop
+add-join32-4 c = omega (arith, inside (c .before .before .before))
+
+shared-slice-read-join32-4 : tie.Need-shared-slice-read-join32-4 Inv-loop2 μ-loop2 Inv-loop μ-loop
+shared-slice-read-join32-4 c = omega (arith, inside (c .before .before .before .before))
+
+join32-requires : tie.Need-join32-requires Inv-loop2 μ-loop2 Inv-loop μ-loop
+join32-requires c κs = search needs
 
 loop-less : tie.Need-loop-less Inv-loop2 μ-loop2 Inv-loop μ-loop
-loop-less c = omega (arith, c .before .before .before .before .before .loop2 .inv .1 .sofar .more)
+loop-less c = omega (arith, c .before .before .before .before .before .before .before .before .before .loop2 .inv .1 .sofar .more)
 
 loop-again : tie.Need-loop-again Inv-loop2 μ-loop2 Inv-loop μ-loop
+unfolding numberAt number
 loop-again c =
-    let a = c .before .before .before .before .before .before .before .before .before .before .before .before .before .before .args in
-    let i = c .before .before .before .before .before .loop2 .inv in
-    let past = stop-none (a .taken) (now (a .s)) (c .before .before .before .before .before .before .before .before .before .before .before .known .result) (c .before .before .if3 .left) in
-    (_, counts-word (a .taken) (now (a .s)) (c .before .before .before .before .before .before .before .before .before .before .before .known .result) (i .1) (c .before .before .before .before .loop2-test .left) past (c .before .if4 .left) (c .word-at .ensures), holds (c .before .before .before .before .before))
+    let a = c .before .before .before .before .before .before .before .before .before .before .before .before .before .before .before .before .before .before .args in
+    let known = c .before .before .before .before .before .before .before .before .before .before .before .before .before .before .before .known .result in
+    let past = stop-none (a .taken) (now (a .s)) known (c .before .before .before .before .before .before .if3 .left) in
+    (_, counts-word (a .taken) (now (a .s)) known (c .before .before .before .before .before .before .before .before .before .loop2 .inv .1) (c .before .before .before .before .before .before .before .before .loop2-test .left) past (more (c .before .before .before .before .before)) (c .join32 .ensures), holds (c .before .before .before .before .before .before .before .before .before))
 
 pub list-spec : {M : Type 1} → statement M
 list-spec =
@@ -242,7 +286,6 @@ list-spec =
     known-requires
     octet-requires
     cast-size
-    cast-words
     cast-last
     mul-last
     add-last
@@ -267,9 +310,20 @@ list-spec =
     loop2-again
     same-length-2
     returns-2
-    add-index
     same-length-3
     returns-3
-    word-at-requires
+    add-index
+    cast-at
+    mul-at
+    add-at
+    add-join32
+    shared-slice-read-join32
+    add-join32-2
+    shared-slice-read-join32-2
+    add-join32-3
+    shared-slice-read-join32-3
+    add-join32-4
+    shared-slice-read-join32-4
+    join32-requires
     loop-less
     loop-again)
