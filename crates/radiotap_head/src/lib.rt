@@ -8,7 +8,7 @@ ghost use Rattle.octets.specs.Numbers.{little, numberAt};
 ghost use Rattle.radiotap_rules.specs.Reading.{presenceWords};
 ghost use Rattle.radiotap_rules.specs.Steps.{headOfWords, headAt, firstCursor};
 ghost use Rattle.radiotap_rules.specs.Answers.{noWord, theWord, wordNumber};
-ghost use Rattle.radiotap_head.specs.Says.{headSays, wordSays, wordInside};
+ghost use Rattle.radiotap_head.specs.Says.{headSays, wordSays};
 use radiotap_fixed::FixedAnswer;
 use radiotap_rules::Cursor;
 use radiotap_rules::Head;
@@ -93,17 +93,6 @@ fn numbered(s: &[u8], words: u8, number: usize) -> WordAnswer
     } else {
         WordAnswer::End
     }
-}
-
-// The presence word of an index, 0 where it does not lie inside the input: one read for walks, which know that it does.
-pub fn word_at(s: &[u8], index: u32) -> u32
-    ensures { λ r. ⌜ r ≡ wordInside (now (s .entry)) index ⌝ }
-{
-    let at = 4 + 4 * index as usize;
-    if s.len() < at + 4 {
-        return 0;
-    }
-    number_at::le32(s, at)
 }
 
 // The cursor at the first position of a header, behind its last presence word.
