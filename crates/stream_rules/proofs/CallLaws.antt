@@ -1,7 +1,7 @@
 -- Case laws of a call: one for each outcome.
 -- Assumes nothing.
 use Prim.Native.Nat.{ℕ, _+_, _-_, _≤_, _<_}
-use mathlib.Core.Path.{_≡_, ap}
+use mathlib.Core.Path.{_≡_}
 use mathlib.Core.List.{List, [], _++_}
 use lib.ListN.{length, take, drop}
 use native.Mathlib.Omega.{arith}
@@ -36,14 +36,11 @@ module _ (octets : ℕ) (held c : List ℕ) where
   unfolding takeRecord
   record-full h = rw (le-ltb (length c) (recordLength - length held) (omega arith))
 
--- a record's header that was taken, by the record's start
-module _ (octets k start : ℕ) (n : Numbers) (c : List ℕ) where
-  pub taken-above : octets + k ≡ start + recordLength → n .original < n .included
-      → recordTaken octets k n c ≡ refuses octets includedLength (start + 4)
+module _ (octets k : ℕ) (n : Numbers) (c : List ℕ) where
+  pub taken-above : n .original < n .included
+      → recordTaken octets k n c ≡ refuses octets includedLength (octets + k - recordLength + 4)
   unfolding recordTaken
-  taken-above e h =
-      let place : octets + k - recordLength + 4 ≡ start + 4 = omega arith in
-      rw (lt-leb (n .included) (n .original) h, place)
+  taken-above h = rw (lt-leb (n .included) (n .original) h)
 
   pub taken-begun : n .included ≤ n .original → recordTaken octets k n c ≡ after k (takePacket (octets + k) n 0 c)
   unfolding recordTaken
@@ -55,13 +52,13 @@ module _ (octets : ℕ) (n : Numbers) (done : ℕ) (c : List ℕ) where
   unfolding takePacket
   packet-more h = rw (lt-ltb (length c) (n .included - done) h)
 
-  pub packet-full : (start : ℕ) → octets ≡ start + recordLength + done → n .included - done ≤ length c
+  pub packet-full : n .included - done ≤ length c
       → takePacket octets n done c
-      ≡ outcome (n .included - done) (finished start n done (take (n .included - done) c)) (inRecord (octets + (n .included - done)) [])
+      ≡ outcome (n .included - done)
+      (finished (octets - (recordLength + done)) n done (take (n .included - done) c))
+      (inRecord (octets + (n .included - done)) [])
   unfolding takePacket
-  packet-full start e h =
-      let place : octets - (recordLength + done) ≡ start = omega arith in
-      rw (le-ltb (length c) (n .included - done) h, place)
+  packet-full h = rw (le-ltb (length c) (n .included - done) h)
 
 module _ (octets : ℕ) (c : List ℕ) (o : Outcome) where
   pub within-limit : octets + length c ≤ mostOctets → within octets c o ≡ o

@@ -337,7 +337,8 @@ module _ (s : List ℕ) where
             let p = here-passed start r n (a .started) (a .numbers) (a .served) enough in
             let long : length (before ++ take k c) ≡ n .included =
             omega (arith, length-append before (take k c), length-take-le k c l, a .position, a .most) in
-            rw (packet-full octets n done c start counted l)
+            let place : octets - (recordLength + done) ≡ start = omega (arith, counted) in
+            rw (packet-full octets n done c l, place)
             (record {
               before′ = [];
               r′ = p .after;
@@ -363,7 +364,7 @@ module _ (s : List ℕ) where
     packet-some : done < n .included → 1 ≤ length c → 1 ≤ takePacket octets n done c .taken
     packet-some f m =
         elim (decLe (n .included - done) (length c)) [
-          | yes l ↦ rw (packet-full octets n done c start counted l) (omega arith)
+          | yes l ↦ rw (packet-full octets n done c l) (omega arith)
           | no l ↦ rw (packet-more octets n done c (lt-of-not-le l)) m
         ]
 
@@ -418,13 +419,14 @@ module _ (s : List ℕ) where
         full : (l : recordLength ≤ length held + length c) → Dec (n .included ≤ n .original)
             → Stepped s c more before r (recordTaken octets k n (drop k c))
         full l (no g) =
-            rw (taken-above octets k start n (drop k c) (at-packet l) (lt-of-not-le g))
+            let place : octets + k - recordLength ≡ start = omega (arith, at-packet l) in
+            rw (taken-above octets k n (drop k c) (lt-of-not-le g), place)
             (stops (λ es. ap (λ (x : List ℕ). stopped x (broken includedLength (start + 4))) (a .none)
             ∙ sym (told-broken start r includedLength (start + 4) (a .started) (omega (arith, size, a .few))
             (judged l ∙ judged-above (length s - start) start n (lt-of-not-le g)))))
         full l (yes g) =
             let p = packet-goes (drop k c) more (octets + k) start n 0 [] r (omega (arith, at-packet l)) (begun l g) in
-            rw (taken-begun octets k start n (drop k c) g)
+            rw (taken-begun octets k n (drop k c) g)
             (goes
             (record {
               before′ = p .before′;

@@ -1,3 +1,4 @@
 pub mod CallLaws
 pub mod Fronts
 pub mod Cuts
+pub mod Calls
