@@ -67,13 +67,13 @@ module _ (st : Stream) (c : List ℕ) where
 
   -- 32 comes first
   limited : (o : Outcome) → (octetsTaken st + length c ≤ mostOctets → Went st c o) → Went st c (within (octetsTaken st) c o)
-  limited o w = go (decLe (octetsTaken st + length c) mostOctets)
+  limited o w = elim (decLe (octetsTaken st + length c) mostOctets) [ yes h ↦ room h | no h ↦ past (lt-of-not-le h) ]
     where
-      go : Dec (octetsTaken st + length c ≤ mostOctets) → Went st c (within (octetsTaken st) c o)
-      go (yes h) = rw le-leb (w h)
-      go (no h) =
-          let past : mostOctets < octetsTaken st + length c = lt-of-not-le h in
-          rw lt-leb (refusal-stops (octetsTaken st) longStream 0 (λ l i e. h i) (λ l a. longDue past))
+      past : mostOctets < octetsTaken st + length c → Went st c (within (octetsTaken st) c o)
+      past h = rw lt-leb (refusal-stops (octetsTaken st) longStream 0 (λ l i e. omega arith) (λ l a. longDue h))
+
+      room : octetsTaken st + length c ≤ mostOctets → Went st c (within (octetsTaken st) c o)
+      room h = rw le-leb (w h)
 
 -- a header is refused with 2, 3 or 4 alone
 abbrev Judged : Answer ℕ → Type 0
@@ -103,12 +103,12 @@ not-long n e h =
 module _ (octets : ℕ) (held c : List ℕ) (room : octets + length c ≤ mostOctets) where
   header-went : Went (inHeader octets held) c (takeHeader octets held c)
   unfolding takeHeader
-  header-went = go (decLe headerLength (length held + length c))
+  header-went = elim (decLe (headerLength - length held) (length c)) [ yes l ↦ whole l | no l ↦ short (lt-of-not-le l) ]
     where
       k : ℕ
       k = headerLength - length held
 
-      full : headerLength ≤ length held + length c → (x : Answer ℕ) → Judged x → Went (inHeader octets held) c (headerTaken octets k x)
+      full : k ≤ length c → (x : Answer ℕ) → Judged x → Went (inHeader octets held) c (headerTaken octets k x)
       full l (refused n q) j =
           refusal-stops (inHeader octets held) c octets n q (λ v h. not-long n j)
           (λ v a. headerDue j (record { before = omega (arith, a .0, a .1); there = omega (arith, a .0) }))
@@ -125,12 +125,11 @@ module _ (octets : ℕ) (held c : List ℕ) (room : octets + length c ≤ mostOc
                 λ a. codeDue (record { before = omega (arith, a .0, a .1); there = omega (arith, a .0) }) (omega (arith, a .0, a .1));
           })
 
-      go : Dec (headerLength ≤ length held + length c) → Went (inHeader octets held) c (takeHeader octets held c)
-      go (yes l) =
-          let whole : headerLength - length held ≤ length c = omega arith in
-          rw le-ltb (full l (headerJudged (held ++ take k c)) (judged (held ++ take k c)))
-      go (no l) =
-          let short : length c < headerLength - length held = omega (arith, lt-of-not-le l) in
+      whole : k ≤ length c → Went (inHeader octets held) c (takeHeader octets held c)
+      whole l = rw le-ltb (full l (headerJudged (held ++ take k c)) (judged (held ++ take k c)))
+
+      short : length c < k → Went (inHeader octets held) c (takeHeader octets held c)
+      short l =
           rw lt-ltb
           (goes room
           (record {
@@ -144,15 +143,16 @@ module _ (octets : ℕ) (held c : List ℕ) (room : octets + length c ≤ mostOc
           }))
 
 -- what octets of a packet hand out is no final answer, and uses up their chunk
-handed-going : (done : ℕ) (c : List ℕ) → Final (handed done c) → ⊥
-handed-going done [] f = f
-handed-going done (x ∷ xs) f =
+handed-going : (position : ℕ) (c : List ℕ) → Final (handed position c) → ⊥
+handed-going position [] f = f
+handed-going position (x ∷ xs) f =
     let some : suc (length xs) ≡ 0 → ⊥ = λ z. omega arith in
     rw (ne-eqb (suc (length xs)) 0 some) at f
 
-handed-due : (octets : ℕ) (chunk : List ℕ) (taken done : ℕ) (c : List ℕ) → taken ≡ length chunk → Due octets chunk taken (handed done c)
-handed-due octets chunk taken done [] e = usedUp e
-handed-due octets chunk taken done (x ∷ xs) e =
+handed-due : {octets taken : ℕ} {chunk : List ℕ} (position : ℕ) (c : List ℕ) → taken ≡ length chunk
+    → Due octets chunk taken (handed position c)
+handed-due position [] e = usedUp e
+handed-due position (x ∷ xs) e =
     let some : suc (length xs) ≡ 0 → ⊥ = λ z. omega arith in
     rw (ne-eqb (suc (length xs)) 0 some) (partUsedUp e)
 
@@ -168,16 +168,30 @@ module _ (st : Stream) (chunk : List ℕ) (k octets : ℕ) (n : Numbers) (done :
     (at : octets ≡ octetsTaken st + k) (long : length chunk ≡ k + length c) (packed : Awaits st → Packed octets n done k) where
   packet-went : Went st chunk (after k (takePacket octets n done c))
   unfolding takePacket
-  packet-went = go (decLe (n .included - done) (length c))
+  packet-went = elim (decLe (n .included - done) (length c)) [ yes l ↦ whole l | no l ↦ short (lt-of-not-le l) ]
     where
-      go : Dec (n .included - done ≤ length c) → Went st chunk (after k (takePacket octets n done c))
-      go (yes l) =
+      short : length c < n .included - done → Went st chunk (after k (takePacket octets n done c))
+      short l =
+          rw lt-ltb
+          (goes room
+          (record {
+            going = handed-going _ c;
+            live = tt;
+            some = λ a m. omega arith;
+            most = omega arith;
+            counted = omega arith;
+            awaits = λ a. (omega (arith, packed a .behind), omega arith);
+            due = λ a. handed-due _ c (sym long);
+          }))
+
+      whole : n .included - done ≤ length c → Went st chunk (after k (takePacket octets n done c))
+      whole l =
           rw le-ltb
           (goes room
           (record {
             going = λ f. f;
             live = tt;
-            some = λ a m. packed a .some;
+            some = λ a m. omega (arith, packed a .some);
             most = omega arith;
             counted = omega arith;
             awaits = λ a. (omega (arith, packed a .behind), omega arith);
@@ -186,25 +200,12 @@ module _ (st : Stream) (chunk : List ℕ) (k octets : ℕ) (n : Numbers) (done :
                 (record { before = omega (arith, packed a .behind, packed a .most, packed a .some); there = omega (arith, packed a .behind, packed a .most) })
                 (omega (arith, packed a .behind, packed a .most));
           }))
-      go (no l) =
-          let short : length c < n .included - done = lt-of-not-le l in
-          rw lt-ltb
-          (goes room
-          (record {
-            going = handed-going done c;
-            live = tt;
-            some = λ a m. omega arith;
-            most = omega arith;
-            counted = omega arith;
-            awaits = λ a. (omega (arith, packed a .behind), omega arith);
-            due = λ a. handed-due (octetsTaken st) chunk (k + length c) done c (sym long);
-          }))
 
 -- one call in a record's header
 module _ (octets : ℕ) (held c : List ℕ) (room : octets + length c ≤ mostOctets) where
   record-went : Went (inRecord octets held) c (takeRecord octets held c)
   unfolding takeRecord recordTaken
-  record-went = go (decLe recordLength (length held + length c))
+  record-went = elim (decLe (recordLength - length held) (length c)) [ yes l ↦ whole l | no l ↦ short (lt-of-not-le l) ]
     where
       k : ℕ
       k = recordLength - length held
@@ -212,7 +213,7 @@ module _ (octets : ℕ) (held c : List ℕ) (room : octets + length c ≤ mostOc
       n : Numbers
       n = numbersAt (held ++ take k c) 0
 
-      full : recordLength ≤ length held + length c → Dec (n .included ≤ n .original)
+      full : k ≤ length c → Dec (n .included ≤ n .original)
           → Went (inRecord octets held) c (recordTaken octets k n (drop k c))
       full l (yes g) =
           rw le-leb
@@ -225,12 +226,11 @@ module _ (octets : ℕ) (held c : List ℕ) (room : octets + length c ≤ mostOc
           (λ v a. sixDue (octets + k - recordLength) refl
           (record { before = omega (arith, a .0, a .1); there = omega (arith, a .0, a .1) })))
 
-      go : Dec (recordLength ≤ length held + length c) → Went (inRecord octets held) c (takeRecord octets held c)
-      go (yes l) =
-          let whole : recordLength - length held ≤ length c = omega arith in
-          rw le-ltb (full l (decLe (n .included) (n .original)))
-      go (no l) =
-          let short : length c < recordLength - length held = omega (arith, lt-of-not-le l) in
+      whole : k ≤ length c → Went (inRecord octets held) c (takeRecord octets held c)
+      whole l = rw le-ltb (full l (decLe (n .included) (n .original)))
+
+      short : length c < k → Went (inRecord octets held) c (takeRecord octets held c)
+      short l =
           rw lt-ltb
           (goes room
           (record {

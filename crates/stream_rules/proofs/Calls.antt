@@ -54,13 +54,16 @@ empty-taken : (st : Stream) → Kept st → Live st → takeAt st [] ≡ outcome
 unfolding takeAt takeHeader takeRecord takePacket
 empty-taken (inHeader octets held) k l =
     let short : 0 < headerLength - length held = omega (arith, k .awaits .1) in
-    rw (le-leb (octets + 0) mostOctets (omega (arith, k .limit l)), lt-ltb, add-zero octets, append-nil held)
+    rw (le-leb (octets + 0) mostOctets (omega (arith, k .limit l)), lt-ltb, add-zero octets)
+    (ap (λ (x : List ℕ). outcome 0 nothing (inHeader octets x)) (append-nil held))
 empty-taken (inRecord octets held) k l =
     let short : 0 < recordLength - length held = omega (arith, k .awaits .1) in
-    rw (le-leb (octets + 0) mostOctets (omega (arith, k .limit l)), lt-ltb, add-zero octets, append-nil held)
+    rw (le-leb (octets + 0) mostOctets (omega (arith, k .limit l)), lt-ltb, add-zero octets)
+    (ap (λ (x : List ℕ). outcome 0 nothing (inRecord octets x)) (append-nil held))
 empty-taken (inPacket octets n done) k l =
     let short : 0 < n .included - done = omega (arith, k .awaits .1) in
-    rw (le-leb (octets + 0) mostOctets (omega (arith, k .limit l)), lt-ltb, add-zero octets, add-zero done)
+    rw (le-leb (octets + 0) mostOctets (omega (arith, k .limit l)), lt-ltb, add-zero octets)
+    (ap (λ (x : ℕ). outcome 0 nothing (inPacket octets n x)) (add-zero done))
 empty-taken (refusedAt octets n q) k l = absurd l
 empty-taken (endedAt octets) k l = absurd l
 

@@ -1,7 +1,7 @@
 pub mod CallLaws
-pub mod Calls
 pub mod Fronts
 pub mod Readings
 pub mod Chains
 pub mod Steps
 pub mod Cuts
+pub mod Calls

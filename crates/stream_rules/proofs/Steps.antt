@@ -65,7 +65,7 @@ module _ (s : List ℕ) where
 
     header-step : Stepped s c more before r (takeHeader octets held c)
     unfolding takeHeader
-    header-step = go (decLe headerLength (length held + length c))
+    header-step = elim (decLe (headerLength - length held) (length c)) [ yes l ↦ whole l | no l ↦ short (lt-of-not-le l) ]
       where
         k : ℕ
         k = headerLength - length held
@@ -76,13 +76,13 @@ module _ (s : List ℕ) where
         whole-stream : s ≡ h ++ (drop k c ++ more)
         whole-stream = a .stream ∙ sym (filled held c more k)
 
-        long : headerLength ≤ length held + length c → length h ≡ headerLength
-        long l = length-filled held c headerLength (omega (arith, w .1)) l
+        long : k ≤ length c → length h ≡ headerLength
+        long l = length-filled held c headerLength (omega (arith, w .1)) (omega arith)
 
-        judged : headerLength ≤ length held + length c → headerAt s ≡ headerJudged h
+        judged : k ≤ length c → headerAt s ≡ headerJudged h
         judged l = header-judged s (omega (arith, header-size, w .0)) ∙ header-front s h (drop k c ++ more) whole-stream (long l)
 
-        full : (l : headerLength ≤ length held + length c) (x : Answer ℕ) → headerAt s ≡ x → Stepped s c more before r (headerTaken octets k x)
+        full : (l : k ≤ length c) (x : Answer ℕ) → headerAt s ≡ x → Stepped s c more before r (headerTaken octets k x)
         full l (refused n q) e =
             stops (λ es. ap (λ (x : List ℕ). stopped x (broken n q)) (a .none) ∙ sym (a .reading ∙ ap (readBehind s) e))
         full l (given code) e =
@@ -104,12 +104,11 @@ module _ (s : List ℕ) where
                   ∙ sym (a .reading ∙ ap (readBehind s) e);
             })
 
-        go : Dec (headerLength ≤ length held + length c) → Stepped s c more before r (takeHeader octets held c)
-        go (yes l) =
-            let full-header : headerLength - length held ≤ length c = omega arith in
-            rw le-ltb (full l (headerJudged h) (judged l))
-        go (no l) =
-            let short : length c < headerLength - length held = omega (arith, lt-of-not-le l) in
+        whole : k ≤ length c → Stepped s c more before r (takeHeader octets held c)
+        whole l = rw le-ltb (full l (headerJudged h) (judged l))
+
+        short : length c < k → Stepped s c more before r (takeHeader octets held c)
+        short l =
             rw lt-ltb
             (goes (record {
               before′ = before;
@@ -139,7 +138,7 @@ module _ (s : List ℕ) where
 
     packet-goes : Goes s before r (takePacket octets n done c .event) (takePacket octets n done c .next) (drop (takePacket octets n done c .taken) c ++ more)
     unfolding takePacket
-    packet-goes = go (decLe (n .included - done) (length c))
+    packet-goes = elim (decLe (n .included - done) (length c)) [ yes l ↦ whole l | no l ↦ short (lt-of-not-le l) ]
       where
         start : ℕ
         start = a .start
@@ -150,9 +149,31 @@ module _ (s : List ℕ) where
         x : Record
         x = record { numbers = n; packet = before ++ take k c }
 
-        go : Dec (n .included - done ≤ length c)
+        short : length c < k
             → Goes s before r (takePacket octets n done c .event) (takePacket octets n done c .next) (drop (takePacket octets n done c .taken) c ++ more)
-        go (yes l) =
+        short l =
+            rw lt-ltb
+            (record {
+              before′ = before ++ c;
+              r′ = r;
+              at =
+                  record {
+                    start = start;
+                    counted = omega (arith, a .counted);
+                    started = a .started;
+                    inside = a .inside;
+                    stream = a .stream ∙ sym (all-taken before c more);
+                    numbers = a .numbers;
+                    served = a .served;
+                    position = omega (arith, length-append before c, a .position);
+                    most = omega arith;
+                  };
+              tells = λ es t. handed-told before c done es (a .position) ∙ t;
+            })
+
+        whole : k ≤ length c
+            → Goes s before r (takePacket octets n done c .event) (takePacket octets n done c .next) (drop (takePacket octets n done c .taken) c ++ more)
+        whole l =
             let enough : start + recordLength + n .included ≤ length s = omega (arith, packet-size, a .counted, a .most) in
             let p = here-passed s start r n (a .started) (a .numbers) (a .served) enough in
             let long : length (before ++ take k c) ≡ n .included =
@@ -179,26 +200,6 @@ module _ (s : List ℕ) where
                   ∙ ap (λ (y : List ℕ). withRecord (record { place = start; value = record { numbers = n; packet = y } }) (p .after)) (sym (packet-joined l))
                   ∙ sym (p .reading);
             })
-        go (no l) =
-            let short : length c < n .included - done = lt-of-not-le l in
-            rw lt-ltb
-            (record {
-              before′ = before ++ c;
-              r′ = r;
-              at =
-                  record {
-                    start = start;
-                    counted = omega (arith, a .counted);
-                    started = a .started;
-                    inside = a .inside;
-                    stream = a .stream ∙ sym (all-taken before c more);
-                    numbers = a .numbers;
-                    served = a .served;
-                    position = omega (arith, length-append before c, a .position);
-                    most = omega arith;
-                  };
-              tells = λ es t. handed-told before c done es (a .position) ∙ t;
-            })
 
   -- one call in a record's header
   module _ (c more : List ℕ) (octets : ℕ) (held before : List ℕ) (r : Reading) (w : Awaits (inRecord octets held))
@@ -209,7 +210,7 @@ module _ (s : List ℕ) where
 
     record-step : Stepped s c more before r (takeRecord octets held c)
     unfolding takeRecord recordTaken
-    record-step = go (decLe recordLength (length held + length c))
+    record-step = elim (decLe (recordLength - length held) (length c)) [ yes l ↦ whole l | no l ↦ short (lt-of-not-le l) ]
       where
         start : ℕ
         start = a .start
@@ -226,22 +227,22 @@ module _ (s : List ℕ) where
         from-start : drop start s ≡ h ++ (drop k c ++ more)
         from-start = a .stream ∙ sym (filled held c more k)
 
-        enough : recordLength ≤ length held + length c → start + recordLength ≤ length s
+        enough : k ≤ length c → start + recordLength ≤ length s
         enough l = omega (arith, record-size, a .counted)
 
-        at-packet : recordLength ≤ length held + length c → octets + k ≡ start + recordLength
+        at-packet : k ≤ length c → octets + k ≡ start + recordLength
         at-packet l = omega (arith, a .counted, w .1)
 
-        long : recordLength ≤ length held + length c → length h ≡ recordLength
-        long l = length-filled held c recordLength (omega (arith, w .1)) l
+        long : k ≤ length c → length h ≡ recordLength
+        long l = length-filled held c recordLength (omega (arith, w .1)) (omega arith)
 
-        numbers : recordLength ≤ length held + length c → numbersAt s start ≡ n
+        numbers : k ≤ length c → numbersAt s start ≡ n
         numbers l = numbers-front s h (drop k c ++ more) start from-start (long l)
 
-        judged : recordLength ≤ length held + length c → recordAt s start ≡ recordJudged (length s - start) start n
+        judged : k ≤ length c → recordAt s start ≡ recordJudged (length s - start) start n
         judged l = here-judged s start (a .started .behind) (enough l) ∙ ap (recordJudged (length s - start) start) (numbers l)
 
-        begun : recordLength ≤ length held + length c → n .included ≤ n .original → InPacket s (octets + k) n 0 (drop k c ++ more) [] r
+        begun : k ≤ length c → n .included ≤ n .original → InPacket s (octets + k) n 0 (drop k c ++ more) [] r
         begun l g =
             record {
               start = start;
@@ -255,7 +256,7 @@ module _ (s : List ℕ) where
               most = omega arith;
             }
 
-        full : recordLength ≤ length held + length c → Dec (n .included ≤ n .original)
+        full : k ≤ length c → Dec (n .included ≤ n .original)
             → Stepped s c more before r (recordTaken octets k n (drop k c))
         full l (yes g) =
             let p = packet-goes (drop k c) more (octets + k) n 0 [] r (begun l g) in
@@ -274,12 +275,11 @@ module _ (s : List ℕ) where
             ∙ sym (told-broken s start r includedLength (start + 4) (a .started) (omega (arith, enough l))
             (judged l ∙ judged-above (length s - start) start n above))))
 
-        go : Dec (recordLength ≤ length held + length c) → Stepped s c more before r (takeRecord octets held c)
-        go (yes l) =
-            let whole : recordLength - length held ≤ length c = omega arith in
-            rw le-ltb (full l (decLe (n .included) (n .original)))
-        go (no l) =
-            let short : length c < recordLength - length held = omega (arith, lt-of-not-le l) in
+        whole : k ≤ length c → Stepped s c more before r (takeRecord octets held c)
+        whole l = rw le-ltb (full l (decLe (n .included) (n .original)))
+
+        short : length c < k → Stepped s c more before r (takeRecord octets held c)
+        short l =
             rw lt-ltb
             (goes (record {
               before′ = before;
@@ -300,7 +300,7 @@ module _ (s : List ℕ) where
   pub last : (st : Stream) (before : List ℕ) (r : Reading) → Awaits st → At s st [] before r → told before (endAt st .event ∷ []) ≡ r
   unfolding endAt
   last (inHeader octets held) before r w a =
-      let size : length s ≡ octets = omega (arith, ap length (a .stream), length-append held [], w .0) in
+      let size : length s ≡ octets = omega (arith, header-size [] [] octets held before r w a) in
       let short : headerAt s ≡ refused shortHeader octets =
       header-short s (omega (arith, w .0, w .1)) ∙ ap (refused shortHeader) size in
       ap (λ (x : List ℕ). stopped x (broken shortHeader octets)) (a .none) ∙ sym (a .reading ∙ ap (readBehind s) short)
@@ -310,7 +310,7 @@ module _ (s : List ℕ) where
       start = a .start
 
       size : length s ≡ start + length held
-      size = omega (arith, a .inside, length-drop start s, ap length (a .stream), length-append held [])
+      size = omega (arith, record-size [] [] octets held before r w a, a .counted)
 
       go : Dec (length held ≡ 0)
           → told before (cond (eqb (length held) 0) (ends octets) (refuses octets shortRecord (octets - length held)) .event ∷ []) ≡ r
@@ -327,16 +327,15 @@ module _ (s : List ℕ) where
           (record-short s start (a .started .behind) (omega (arith, size, e)) (omega (arith, size, w .1)))))
   last (inPacket octets n done) before r w a =
       let start : ℕ = a .start in
-      let size : length s ≡ start + recordLength + done =
-      omega (arith, a .inside, a .position, length-drop (start + recordLength) s, ap length (a .stream), length-append before []) in
+      let size : length s ≡ octets = omega (arith, packet-size [] [] octets n done before r a) in
       let place : octets - (recordLength + done) ≡ start = omega (arith, a .counted) in
       let cut : recordAt s start ≡ refused shortPacket start =
       here-judged s start (a .started .behind) (a .inside)
       ∙ ap (recordJudged (length s - start) start) (a .numbers)
-      ∙ judged-past (length s - start) start n (a .served) (omega (arith, w .1)) in
+      ∙ judged-past (length s - start) start n (a .served) (omega (arith, a .counted, w .1)) in
       ap (λ (x : ℕ). stopped before (broken shortPacket x)) place
       ∙ ap (λ (x : List ℕ). stopped x (broken shortPacket start)) (sym (append-nil before) ∙ sym (a .stream))
-      ∙ sym (told-broken s start r shortPacket start (a .started) (omega arith) cut)
+      ∙ sym (told-broken s start r shortPacket start (a .started) (omega (arith, a .counted)) cut)
   last (refusedAt octets n q) before r w a = absurd a
   last (endedAt octets) before r w a = absurd a
 
