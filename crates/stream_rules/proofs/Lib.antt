@@ -5,3 +5,4 @@ pub mod Chains
 pub mod Steps
 pub mod Cuts
 pub mod Calls
+pub mod Parts

@@ -1,16 +1,17 @@
 -- What holds of each call: how many octets it takes, when each answer comes, 32, and that the final answer stays.
 -- Proofs: proofs/Calls.antt.
-use Prim.Native.Nat.{ℕ, _+_, _≤_, _<_}
+use Prim.Native.Nat.{ℕ, _+_, _-_, _≤_, _<_}
 use mathlib.Core.Path.{_≡_}
 use mathlib.Core.Bool.{Bool, true, false, _||_}
 use mathlib.Core.List.{List, []}
 use lib.ListN.{length}
 use lib.Dec.{eqb}
 use Rattle.refusals.specs.Refusals.{shortHeader, identification, version, shortRecord, includedLength, shortPacket, datalink as datalinkCode}
+use Rattle.octets.specs.Parts.{part as partOf}
 use Rattle.btsnoop_rules.specs.declared.Numbers.{Numbers}
 use Rattle.btsnoop_rules.specs.Header.{headerLength}
 use Rattle.btsnoop_rules.specs.Record.{recordLength}
-use Rattle.stream_rules.specs.Stream.{longStream, mostOctets, Event, nothing, datalink, part, finished, refusal, end, Stream, inHeader, inRecord, inPacket, refusedAt, endedAt, fresh, octetsTaken, Outcome, outcome, refuses, takeAt, endAt}
+use Rattle.stream_rules.specs.Stream.{longStream, mostOctets, Event, nothing, datalink, part, finished, refusal, end, packetOctets, Stream, inHeader, inRecord, inPacket, refusedAt, endedAt, fresh, octetsTaken, Outcome, outcome, refuses, takeAt, endAt}
 
 -- what calls leave, from the fresh state on
 pub data Left : Stream → Type 0 where
@@ -57,6 +58,12 @@ pub record Takes (st : Stream) (c : List ℕ) : Type 0 where
 abbrev pub EachTakes : Type 0
 EachTakes = (st : Stream) → Left st → (c : List ℕ)
     → ((Final (takeAt st c .event) → ⊥) → Takes st c) × (Final (takeAt st c .event) → takeAt st c .taken ≡ 0)
+
+-- packet octets are handed out as a part of the chunk: the last that the call took
+abbrev pub PartsOfChunk : Type 0
+PartsOfChunk = (st : Stream) (c : List ℕ)
+    → packetOctets (takeAt st c .event)
+    ≡ partOf c (takeAt st c .taken - length (packetOctets (takeAt st c .event))) (length (packetOctets (takeAt st c .event)))
 
 -- a chunk of no octets changes nothing
 abbrev pub EmptyChunk : Type 0

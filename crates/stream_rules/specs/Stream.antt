@@ -27,6 +27,15 @@ pub data Event : Type 0 where
   refusal : (number place : ℕ) → Event
   end : (place : ℕ) → Event
 
+-- the packet octets that are handed out
+abbrev pub packetOctets : Event → List ℕ
+packetOctets nothing = []
+packetOctets (datalink code) = []
+packetOctets (part position xs) = xs
+packetOctets (finished p n position xs) = xs
+packetOctets (refusal n q) = []
+packetOctets (end q) = []
+
 -- what is kept between calls: how many octets of the stream were taken, and with it the octets held of the file
 -- header; those held of a record's header; a record's numbers and how many octets of its packet were handed out; or the
 -- final answer
