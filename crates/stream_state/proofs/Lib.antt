@@ -1,0 +1,3 @@
+pub mod Fills
+pub mod Cases
+pub mod Rows
