@@ -20,6 +20,7 @@ ghost use Rattle.boundary_time.specs.Rows.{timeRow, timeFieldRow};
 ghost use Rattle.boundary_radiotap.specs.Rows.{radiotapRow, wordRow, fieldRow};
 
 pub mod le;
+pub mod stream;
 pub mod tallying;
 
 use boundary_btsnoop::Earlier;
