@@ -6,8 +6,8 @@
  * The library allocates nothing, keeps no pointer and has no state.
  *
  * The answer is a struct returned by value. Look at its `kind` first. Fields that a kind has no value for are 0.
- * A place is an offset in octets from the start of the buffer lent. An input is only read. A refusal changes nothing
- * that was lent, an accepted write only the octets written. */
+ * A place is an offset in octets from the start of the buffer lent, or of the stream. An input is only read. A refusal
+ * changes nothing that was lent, an accepted write only the octets written. */
 #ifndef ZALGHIMO_H
 #define ZALGHIMO_H
 
@@ -25,7 +25,8 @@ enum {
     ZALGHIMO_VALUES = 1,
     ZALGHIMO_END = 2,
     ZALGHIMO_MORE = 3,
-    ZALGHIMO_STOPPED = 4  /* a radiotap header read up to a bit that the edition does not know, named by word and bit */
+    ZALGHIMO_STOPPED = 4, /* a radiotap header read up to a bit that the edition does not know, named by word and bit */
+    ZALGHIMO_FILE_HEADER = 5 /* a stream's file header is whole */
 };
 
 /* The refusals: condition; place. A writer's refusal has place 0, whatever stands here.
@@ -52,7 +53,8 @@ enum {
     ZALGHIMO_RECORD_PLACE = 17,           /* a record place below 16 or above the input's length; the place given */
     ZALGHIMO_UNKNOWN_BIT = 18,            /* writer: a presence bit unknown to the edition, 29 to 31 included; 0 */
     ZALGHIMO_VALUES_LENGTH = 19,          /* writer: packed values not of the summed length; 0 */
-    ZALGHIMO_LISTING_INPUT = 20           /* listing program only: input above 65,536 octets; 65536 */
+    ZALGHIMO_LISTING_INPUT = 20,          /* listing program only: input above 65,536 octets; 65536 */
+    ZALGHIMO_LONG_STREAM = 32             /* a chunk takes the stream past 2^63 - 1 octets; 0 */
 };
 
 /* ---- The answers ---- */
@@ -66,6 +68,24 @@ typedef struct {
 } zalghimo_record;
 typedef struct { uint64_t kind, number, place, count, reached; } zalghimo_survey;
 typedef struct { uint64_t kind, number, place, capture, packet, length; } zalghimo_earlier;
+typedef struct {
+    uint64_t phase;         /* what comes next: 0 file header, 1 record header, 2 packet; 3 refused; any other: ended */
+    uint64_t number, place; /* of the refusal, otherwise 0 */
+    uint64_t octets;        /* octets of the stream that were taken */
+    uint64_t count;         /* octets held */
+    uint64_t done;          /* octets of the packet handed out */
+    uint8_t held[24];
+} zalghimo_stream;
+typedef struct {
+    uint64_t kind, number, place;
+    uint64_t taken;                /* octets of the chunk */
+    uint64_t part, size, position; /* packet octets: their place in the chunk, how many, their place in the packet */
+    uint64_t datalink;
+    uint64_t start;                /* the record's place */
+    uint64_t original, included, flags, drops;
+    int64_t time;
+    zalghimo_stream state;         /* for the next call */
+} zalghimo_taken;
 typedef struct { uint64_t kind, number, place; int64_t seconds; uint64_t microseconds; } zalghimo_time;
 typedef struct { uint64_t kind, number, place; int64_t field; } zalghimo_time_field;
 typedef struct { uint64_t kind, number, place; } zalghimo_done;
@@ -134,6 +154,33 @@ uint32_t zalghimo_btsnoop_drops(uint32_t earlier, uint32_t later);
  * Refusals: TALLY_SUM; the tally stays as it was. */
 zalghimo_done zalghimo_btsnoop_tally(uint64_t tally[6], uint32_t original, uint32_t included, uint32_t flags,
                                      uint32_t drops);
+
+/* ---- BTSnoop, as it arrives ----
+ * A stream is a file that comes in chunks of whatever length, sometimes of none. Start from zalghimo_stream_fresh.
+ * Each call is given the `state` that the last one left, and the octets that the last one did not take come first in
+ * its chunk. However the stream is cut, the calls tell what zalghimo_btsnoop_header and then zalghimo_btsnoop_record
+ * tell of the whole file; places count from the stream's start. The state is all that is kept between calls. Of it
+ * only `octets` is for reading, and a state that no call left gets some answer. */
+
+/* The state before the first octet. */
+zalghimo_stream zalghimo_stream_fresh(void);
+
+/* Takes octets of a chunk, at least one where it has any, at most up to the end of the file header or of a record.
+ * FILE_HEADER: the file header's last octet was taken; its datalink code.
+ * VALUES: a record's last octet was taken; the record's place, and its numbers as zalghimo_btsnoop_record has them.
+ * MORE: nothing is finished yet, and the whole chunk was taken.
+ * END: the end was told before.
+ * With VALUES and MORE come the packet octets that were taken, where there are any: `size` octets from `part` on in the
+ * chunk. The parts of a packet come in order and without gaps, and its last one with VALUES.
+ * Refusals: LONG_STREAM, by the whole chunk, even where less of it would be taken; with the file header's last octet
+ * IDENTIFICATION, VERSION, DATALINK; with the last octet of a record's 24 INCLUDED_ABOVE_ORIGINAL.
+ * After a refusal or the end every further call gets the same answer, whatever its chunk. Both take nothing. */
+zalghimo_taken zalghimo_stream_take(zalghimo_stream state, const uint8_t *chunk, size_t length);
+
+/* Says that the stream has ended. END: its last octet is the file header's or a record's.
+ * Refusals: SHORT_HEADER, SHORT_RECORD, SHORT_PACKET. The parts of a packet that SHORT_PACKET ends are the packet's
+ * start, and no record. After a refusal or the end the answer is the one given then. */
+zalghimo_taken zalghimo_stream_end(zalghimo_stream state);
 
 /* ---- BTSnoop, writing ----
  * A writer writes into the output at a place and answers the place after what it wrote, `next`. */

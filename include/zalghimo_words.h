@@ -7,30 +7,31 @@
 /* A refusal's condition in words, from its number. */
 static inline const char *zalghimo_refusal_words(uint64_t number)
 {
-    static const char *const words[] = {
-        "not a refusal",
-        "the input is shorter than the fixed header",
-        "the identification octets differ",
-        "the version is not served",
-        "the datalink code is not 1001 to 1004",
-        "1 to 23 octets remain where a record starts",
-        "the included length is above the original length",
-        "the packet runs past the input, or an LE packet is too short",
-        "RF channel above 39, PDU type 7 or PHY 3",
-        "the radiotap length is below 8 or above the input",
-        "a presence word runs past the radiotap length",
-        "a ninth presence word is called for",
-        "a known field runs past the radiotap length",
-        "the output has no room from the given place",
-        "the time cannot be expressed",
-        "the edition is above 3",
-        "a tally sum would pass 2^64 - 1",
-        "the record place is below 16 or above the input's length",
-        "a presence bit is not known to the edition",
-        "the packed values are not of the summed length",
-        "the input is above 65,536 octets"
-    };
-    return number < sizeof words / sizeof words[0] ? words[number] : "a number that is not in the list";
+    switch (number) {
+    case 0: return "not a refusal";
+    case ZALGHIMO_SHORT_HEADER: return "the input is shorter than the fixed header";
+    case ZALGHIMO_IDENTIFICATION: return "the identification octets differ";
+    case ZALGHIMO_VERSION: return "the version is not served";
+    case ZALGHIMO_DATALINK: return "the datalink code is not 1001 to 1004";
+    case ZALGHIMO_SHORT_RECORD: return "1 to 23 octets remain where a record starts";
+    case ZALGHIMO_INCLUDED_ABOVE_ORIGINAL: return "the included length is above the original length";
+    case ZALGHIMO_SHORT_PACKET: return "the packet runs past the input, or an LE packet is too short";
+    case ZALGHIMO_LE_VALUE: return "RF channel above 39, PDU type 7 or PHY 3";
+    case ZALGHIMO_RADIOTAP_LENGTH: return "the radiotap length is below 8 or above the input";
+    case ZALGHIMO_WORD_PAST_LENGTH: return "a presence word runs past the radiotap length";
+    case ZALGHIMO_NINTH_WORD: return "a ninth presence word is called for";
+    case ZALGHIMO_FIELD_PAST_LENGTH: return "a known field runs past the radiotap length";
+    case ZALGHIMO_NO_ROOM: return "the output has no room from the given place";
+    case ZALGHIMO_TIME: return "the time cannot be expressed";
+    case ZALGHIMO_EDITION: return "the edition is above 3";
+    case ZALGHIMO_TALLY_SUM: return "a tally sum would pass 2^64 - 1";
+    case ZALGHIMO_RECORD_PLACE: return "the record place is below 16 or above the input's length";
+    case ZALGHIMO_UNKNOWN_BIT: return "a presence bit is not known to the edition";
+    case ZALGHIMO_VALUES_LENGTH: return "the packed values are not of the summed length";
+    case ZALGHIMO_LISTING_INPUT: return "the input is above 65,536 octets";
+    case ZALGHIMO_LONG_STREAM: return "a chunk takes the stream past 2^63 - 1 octets";
+    default: return "a number that is not in the list";
+    }
 }
 
 /* The published name of a radiotap presence bit. */

@@ -19,6 +19,9 @@ zalghimo_time zalghimo_btsnoop_read_time(int64_t);
 zalghimo_time_field zalghimo_btsnoop_write_time(int64_t, uint32_t);
 uint32_t zalghimo_btsnoop_drops(uint32_t, uint32_t);
 zalghimo_done zalghimo_btsnoop_tally(uint64_t[6], uint32_t, uint32_t, uint32_t, uint32_t);
+zalghimo_stream zalghimo_stream_fresh(void);
+zalghimo_taken zalghimo_stream_take(zalghimo_stream, const uint8_t *, size_t);
+zalghimo_taken zalghimo_stream_end(zalghimo_stream);
 zalghimo_written zalghimo_btsnoop_write_header(uint8_t *, size_t, size_t, uint32_t);
 zalghimo_written zalghimo_btsnoop_write_record(uint8_t *, size_t, size_t, uint32_t, uint32_t, uint32_t, int64_t,
                                                const uint8_t *, size_t);
@@ -72,6 +75,31 @@ static void survey(const char *what, zalghimo_survey answer)
 static void earlier(const char *what, zalghimo_earlier answer)
 {
     BEGIN(), PLAIN(capture), PLAIN(packet), PLAIN(length), END();
+}
+
+/* What a state says by its phase. Of the octets held there are `count`, in a packet all 24. */
+static void stream(const char *what, zalghimo_stream answer)
+{
+    printf("%s:", what), PLAIN(octets);
+    if (answer.phase < 4)
+        PLAIN(phase), PLAIN(number), PLAIN(place);
+    if (answer.phase < 2)
+        PLAIN(count);
+    if (answer.phase == 2)
+        PLAIN(done);
+    uint64_t held = answer.phase < 2 ? answer.count : answer.phase == 2 ? sizeof answer.held : 0;
+    for (uint64_t i = 0; i < held; i++)
+        printf(" %02x", answer.held[i]);
+    END();
+}
+
+/* Prints an answer and the state that it leaves, and hands that on. */
+static zalghimo_stream taken(const char *what, zalghimo_taken answer)
+{
+    BEGIN(), PLAIN(taken), PLAIN(part), PLAIN(size), PLAIN(position), PLAIN(datalink), PLAIN(start), PLAIN(original);
+    PLAIN(included), PLAIN(flags), PLAIN(drops), SIGNED(time), END();
+    stream("state", answer.state);
+    return answer.state;
 }
 
 static void unix_time(const char *what, zalghimo_time answer)
@@ -180,6 +208,30 @@ static void btsnoop_reading(void)
     unix_time("btsnoop_read_time of 2000", zalghimo_btsnoop_read_time(INT64_C(0x00E03AB44A676000) + 5));
     unix_time("btsnoop_read_time of the lowest", zalghimo_btsnoop_read_time(INT64_MIN));
     printf("btsnoop_drops: %" PRIu32 "\n", zalghimo_btsnoop_drops(4294967290u, 5));
+}
+
+/* Each call goes on where the last one ended. */
+static void stream_reading(void)
+{
+    zalghimo_stream state = zalghimo_stream_fresh();
+    stream("stream_fresh", state);
+    state = taken("stream_take of 10 octets", zalghimo_stream_take(state, first, 10));
+    state = taken("stream_take of the rest", zalghimo_stream_take(state, first + 10, 88));
+    state = taken("stream_take of a record's start", zalghimo_stream_take(state, first + 16, 26));
+    taken("stream_end in a packet", zalghimo_stream_end(state));
+    state = taken("stream_take of the rest", zalghimo_stream_take(state, first + 42, 56));
+    state = taken("stream_take of 20 octets", zalghimo_stream_take(state, first + 45, 20));
+    zalghimo_stream cut = taken("stream_end in a record's header", zalghimo_stream_end(state));
+    taken("stream_take after it", zalghimo_stream_take(cut, first + 65, 33));
+    state = taken("stream_take of the rest", zalghimo_stream_take(state, first + 65, 33));
+    state = taken("stream_take of a record's header", zalghimo_stream_take(state, first + 71, 24));
+    state = taken("stream_take of none", zalghimo_stream_take(state, first + 95, 0));
+    state = taken("stream_take of a packet", zalghimo_stream_take(state, first + 95, 3));
+    state = taken("stream_end", zalghimo_stream_end(state));
+    taken("stream_take after it", zalghimo_stream_take(state, first, 98));
+    state = zalghimo_stream_fresh();
+    state.octets = INT64_MAX;
+    taken("stream_take past the most", zalghimo_stream_take(state, first, 1));
 }
 
 static void btsnoop_tally(void)
@@ -303,6 +355,7 @@ static void constants(void)
     CONSTANT(ZALGHIMO_END);
     CONSTANT(ZALGHIMO_MORE);
     CONSTANT(ZALGHIMO_STOPPED);
+    CONSTANT(ZALGHIMO_FILE_HEADER);
 
     CONSTANT(ZALGHIMO_SHORT_HEADER);
     CONSTANT(ZALGHIMO_IDENTIFICATION);
@@ -324,6 +377,7 @@ static void constants(void)
     CONSTANT(ZALGHIMO_UNKNOWN_BIT);
     CONSTANT(ZALGHIMO_VALUES_LENGTH);
     CONSTANT(ZALGHIMO_LISTING_INPUT);
+    CONSTANT(ZALGHIMO_LONG_STREAM);
 
     CONSTANT(ZALGHIMO_RADIOTAP_MOST_FIELDS);
 }
@@ -372,8 +426,9 @@ static void le_constants(void)
     CONSTANT(ZALGHIMO_MIC_PASSED);
 }
 
-/* How many 64-bit numbers a struct has. */
+/* How many 64-bit numbers a struct has; how many octets one has that holds others too. */
 #define NUMBERS(type) printf(#type " has %zu numbers\n", sizeof(type) / sizeof(uint64_t))
+#define OCTETS(type) printf(#type " has %zu octets\n", sizeof(type))
 
 static void structs(void)
 {
@@ -382,6 +437,8 @@ static void structs(void)
     NUMBERS(zalghimo_record);
     NUMBERS(zalghimo_survey);
     NUMBERS(zalghimo_earlier);
+    OCTETS(zalghimo_stream);
+    OCTETS(zalghimo_taken);
     NUMBERS(zalghimo_time);
     NUMBERS(zalghimo_time_field);
     NUMBERS(zalghimo_done);
@@ -394,7 +451,7 @@ static void structs(void)
 
 static void words(void)
 {
-    for (uint64_t number = 0; number <= 21; number++)
+    for (uint64_t number = 0; number <= 33; number++)
         printf("refusal %" PRIu64 ": %s\n", number, zalghimo_refusal_words(number));
     for (uint64_t bit = 0; bit <= 32; bit++)
         printf("bit %" PRIu64 ": %s\n", bit, zalghimo_radiotap_name(bit));
@@ -404,6 +461,7 @@ int main(void)
 {
     clear();
     btsnoop_reading();
+    stream_reading();
     btsnoop_tally();
     btsnoop_writing();
     le_reading();

@@ -1,11 +1,8 @@
 //! The structs that the functions answer.
 
-// Rust before 1.80 does not have it in the prelude.
-use std::mem::size_of;
-
-/// Declares a struct of kind, number, place and these fields.
+/// Declares a struct of kind, number, place and these fields, and then what is kept for the next call.
 macro_rules! answer {
-    ($(#[$about:meta])* $name:ident $(, $field:ident: $number:ty)* $(,)?) => {
+    ($(#[$about:meta])* $name:ident $(, $field:ident: $number:ty)* $(,)? $(; $state:ident: $kept:ty)?) => {
         $(#[$about])*
         #[repr(C)]
         #[derive(Clone, Copy, Debug, Default, PartialEq, Eq)]
@@ -13,10 +10,14 @@ macro_rules! answer {
             pub kind: u64,
             pub number: u64,
             pub place: u64,
-            $(pub $field: $number),*
+            $(pub $field: $number,)*
+            $(pub $state: $kept,)?
         }
 
         impl $name {
+            /// How many numbers it has.
+            pub const NUMBERS: usize = 3 + <[&str]>::len(&[$(stringify!($field)),*]);
+
             /// Kind, number and place.
             #[inline]
             pub fn head(&self) -> Done {
@@ -29,7 +30,7 @@ macro_rules! answer {
 
             /// The numbers in the struct's order, signed ones as two's complement.
             #[inline]
-            pub fn row(&self) -> [u64; size_of::<$name>() / 8] {
+            pub fn row(&self) -> [u64; Self::NUMBERS] {
                 [self.kind, self.number, self.place, $(self.$field as u64),*]
             }
         }
@@ -74,6 +75,36 @@ answer!(
     capture: u64,
     packet: u64,
     length: u64,
+);
+
+/// `zalghimo_stream`, which is kept between calls: of it only `octets` is for reading.
+#[repr(C)]
+#[derive(Clone, Copy, Debug, Default, PartialEq, Eq)]
+pub struct Stream {
+    pub phase: u64,
+    pub number: u64,
+    pub place: u64,
+    pub octets: u64,
+    pub count: u64,
+    pub done: u64,
+    pub held: [u8; 24],
+}
+
+answer!(
+    /// `zalghimo_taken`
+    Taken,
+    taken: u64,
+    part: u64,
+    size: u64,
+    position: u64,
+    datalink: u64,
+    start: u64,
+    original: u64,
+    included: u64,
+    flags: u64,
+    drops: u64,
+    time: i64;
+    state: Stream
 );
 
 answer!(

@@ -1,5 +1,6 @@
 //! The C boundary of `libzalghimo.a`, as `include/zalghimo.h` has it: the structs that are answered, their kinds, and
-//! the functions, in [`raw`] as they are and in [`btsnoop`], [`le`] and [`radiotap`] each behind a safe one.
+//! the functions, in [`raw`] as they are and in [`btsnoop`], [`stream`], [`le`] and [`radiotap`] each behind a safe
+//! one.
 //!
 //! A safe function has its C function's parameters in their order, with a slice for a pointer and its length. What it
 //! answers and refuses stands in the header.
@@ -16,9 +17,10 @@ pub mod btsnoop;
 pub mod le;
 pub mod radiotap;
 pub mod raw;
+pub mod stream;
 
 pub use answers::{Done, Earlier, Field, File, Header, Le, Radiotap};
-pub use answers::{Record, Survey, Time, TimeField, Word, Written};
+pub use answers::{Record, Stream, Survey, Taken, Time, TimeField, Word, Written};
 
 /// What an answer's kind says: refused, with number and place.
 pub const REFUSED: u64 = 0;
@@ -34,6 +36,9 @@ pub const MORE: u64 = 3;
 
 /// A radiotap header read up to a bit that the edition does not know.
 pub const STOPPED: u64 = 4;
+
+/// A stream's file header is whole.
+pub const FILE_HEADER: u64 = 5;
 
 /// The most fields that a radiotap header can have.
 pub const RADIOTAP_MOST_FIELDS: usize = 232;

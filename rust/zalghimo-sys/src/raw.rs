@@ -1,7 +1,7 @@
 //! The functions as C has them, in the header's order.
 
 use crate::{Done, Earlier, Field, File, Header, Le, Radiotap};
-use crate::{Record, Survey, Time, TimeField, Word, Written};
+use crate::{Record, Stream, Survey, Taken, Time, TimeField, Word, Written};
 
 extern "C" {
     pub fn zalghimo_btsnoop_header(input: *const u8, length: usize) -> Header;
@@ -30,6 +30,9 @@ extern "C" {
         flags: u32,
         drops: u32,
     ) -> Done;
+    pub fn zalghimo_stream_fresh() -> Stream;
+    pub fn zalghimo_stream_take(state: Stream, chunk: *const u8, length: usize) -> Taken;
+    pub fn zalghimo_stream_end(state: Stream) -> Taken;
     pub fn zalghimo_btsnoop_write_time(seconds: i64, microseconds: u32) -> TimeField;
     pub fn zalghimo_btsnoop_write_header(
         output: *mut u8,
