@@ -8,5 +8,6 @@ pub mod output;
 pub mod radiotap;
 pub mod refusal;
 pub mod rows;
+pub mod stream;
 pub mod tally;
 pub mod time;

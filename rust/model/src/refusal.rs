@@ -23,6 +23,7 @@ pub enum Reason {
     UnknownBit = 18,
     ValuesLength = 19,
     ListingInput = 20,
+    LongStream = 32,
 }
 
 /// A refusal as it is handed out.

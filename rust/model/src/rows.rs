@@ -6,6 +6,7 @@ use crate::refusal::Refusal;
 pub mod btsnoop;
 pub mod le;
 pub mod radiotap;
+pub mod stream;
 
 /// The kinds of an answer.
 pub const REFUSED: u64 = 0;
@@ -13,6 +14,7 @@ pub const VALUES: u64 = 1;
 pub const END: u64 = 2;
 pub const MORE: u64 = 3;
 pub const STOPPED: u64 = 4;
+pub const FILE_HEADER: u64 = 5;
 
 /// The kind of a field that is asked for a value in dBm and has none; no C struct has it.
 pub const NO_DBM: u64 = 5;
