@@ -8,6 +8,7 @@ mod places;
 mod progress;
 mod radiotap;
 mod report;
+mod stream;
 mod tally;
 
 use progress::Progress;
@@ -30,9 +31,10 @@ pub struct Session {
 /// Questions asked in a session.
 type Questions = fn(&mut Session);
 
-/// The name, the ends and the round of each format and of the tally.
-const FORMATS: [(&str, Questions, Questions); 4] = [
+/// The name, the ends and the round of each format, of streams and of the tally.
+const FORMATS: [(&str, Questions, Questions); 5] = [
     ("btsnoop", btsnoop::ends::all, btsnoop::round),
+    ("stream", stream::ends::all, stream::round),
     ("radiotap", radiotap::ends::all, radiotap::round),
     ("LE", le::ends::all, le::round),
     ("tally", tally::ends::all, tally::round),

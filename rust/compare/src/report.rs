@@ -56,6 +56,11 @@ impl Report {
         }
     }
 
+    /// Counts answers that were compared and found as expected.
+    pub fn agreed(&mut self, function: &'static str, answers: u64) {
+        *self.counts.entry(function).or_default() += answers;
+    }
+
     /// How many answers were compared.
     pub fn answers(&self) -> u64 {
         self.counts.values().sum()

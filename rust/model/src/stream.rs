@@ -23,10 +23,11 @@ pub enum Answer<'a> {
         taken: usize,
         datalink: u32,
     },
-    /// A record's last octet was taken.
+    /// A record's last octet was taken; `start` is its place in the stream.
     Record {
         taken: usize,
         part: Part,
+        start: u64,
         record: Record<'a>,
     },
     /// Nothing is finished yet.
@@ -45,6 +46,8 @@ pub struct Stream {
     octets: usize,
     /// Where the record starts that is under way or comes next.
     start: usize,
+    /// Octets of the stream behind its file header that are not at hand.
+    before: u64,
     last: Option<Result<(), Refusal>>,
 }
 
@@ -59,13 +62,25 @@ impl Stream {
         Stream {
             octets: 0,
             start: FILE_HEADER,
+            before: 0,
             last: None,
         }
     }
 
-    /// How many octets of the stream were taken.
+    /// Goes on as though so many octets of whole records had come behind the file header.
+    pub fn pass(&mut self, before: u64) {
+        assert_eq!(self.octets, FILE_HEADER);
+        self.before += before;
+    }
+
+    /// How many of the octets at hand were taken.
     pub fn octets(&self) -> usize {
         self.octets
+    }
+
+    /// How many octets of the stream were taken.
+    pub fn all_octets(&self) -> u64 {
+        self.before + self.octets as u64
     }
 
     /// Whether the end or a refusal was told.
@@ -100,7 +115,7 @@ impl Stream {
         }
         let whole = &so_far[..self.octets];
         let last = match read_header(whole) {
-            Ok(_) => read_record(whole, self.start).map(|_| ()),
+            Ok(_) => self.read_record(whole).map(|_| ()),
             Err(refusal) => Err(refusal),
         };
         self.over(last)
@@ -115,16 +130,17 @@ impl Stream {
     /// What the stream so far allows to tell, where nothing final was told.
     fn judge<'a>(&self, so_far: &'a [u8]) -> Result<Answer<'a>, Refusal> {
         let chunk = so_far.len() - self.octets;
-        if too_long(self.octets as u64, chunk) {
+        if too_long(self.all_octets(), chunk) {
             return Err(Reason::LongStream.at(0));
         }
         if self.octets < FILE_HEADER {
             return self.judge_header(so_far);
         }
-        match read_record(so_far, self.start) {
+        match self.read_record(so_far) {
             Ok(Some(record)) => Ok(Answer::Record {
                 taken: record.next() - self.octets,
                 part: self.part(record.next()),
+                start: self.before + record.start() as u64,
                 record,
             }),
             // What has not come yet may come: only the sender's word makes a refusal of it.
@@ -153,6 +169,14 @@ impl Stream {
             }),
             Err(refusal) => Err(refusal),
         }
+    }
+
+    /// The present record; a refusal's place counts from the start of the stream.
+    fn read_record<'a>(&self, so_far: &'a [u8]) -> Result<Option<Record<'a>>, Refusal> {
+        read_record(so_far, self.start).map_err(|refusal| Refusal {
+            place: refusal.place + self.before as usize,
+            ..refusal
+        })
     }
 
     /// The octets of the present packet between those taken before and a place, if any.

@@ -13,8 +13,18 @@ pub fn taken(answer: &Answer) -> [u64; 14] {
         Answer::Record {
             taken,
             part,
+            start,
             record,
-        } => row(VALUES, &finished_values(*taken, part, record)),
+        } => {
+            let [taken, place, size, position] = taken_values(*taken, part);
+            let [original, included, flags, drops, time] = record_values(record);
+            row(
+                VALUES,
+                &[
+                    taken, place, size, position, 0, *start, original, included, flags, drops, time,
+                ],
+            )
+        }
         Answer::More { taken, part } => row(MORE, &taken_values(*taken, part)),
         Answer::End => row(END, &[]),
         Answer::Refused(refusal) => refused(*refusal, &[]),
@@ -25,15 +35,8 @@ fn taken_values(taken: usize, part: &Part) -> [u64; 4] {
     [taken, part.place, part.size, part.position].map(|number| number as u64)
 }
 
-fn finished_values(taken: usize, part: &Part, record: &Record) -> [u64; 11] {
-    let [taken, place, size, position] = taken_values(taken, part);
+fn record_values(record: &Record) -> [u64; 5] {
     [
-        taken,
-        place,
-        size,
-        position,
-        0,
-        record.start() as u64,
         record.fields.original_length.into(),
         record.packet.len() as u64,
         record.fields.flags.into(),

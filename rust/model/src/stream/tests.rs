@@ -55,6 +55,7 @@ fn finished(octets: &[u8], start: usize, taken: usize, part: Part) -> Answer<'_>
     Answer::Record {
         taken,
         part,
+        start: start as u64,
         record,
     }
 }
@@ -174,6 +175,29 @@ fn final_answer_stays() {
         assert_eq!(cut.take(&octets), refused(Reason::ShortRecord, 16));
         assert!(cut.is_over() && cut.octets() == 20);
     }
+}
+
+#[test]
+fn places_count_from_the_start_of_a_long_stream() {
+    let octets = file(&[&[1], &[2, 3]]);
+    let before = MOST_OCTETS - 66;
+    let mut stream = after(&octets, &[16]);
+    stream.pass(before);
+    let Answer::Record { start, taken, .. } = stream.take(&octets[..66]) else {
+        panic!("a record");
+    };
+    assert_eq!((start, taken), (before + 16, 25));
+    assert_eq!(stream.take(&octets[..66]), more(25, part(24, 1, 0)));
+    assert_eq!(stream.all_octets(), MOST_OCTETS);
+    let mut cut = stream;
+    let place = before as usize + 41;
+    assert_eq!(cut.end(&octets), refused(Reason::ShortPacket, place));
+    assert_eq!(stream.take(&octets[..66]), more(0, NO_PART));
+    for _ in 0..2 {
+        assert_eq!(stream.take(&octets), refused(Reason::LongStream, 0));
+        assert_eq!(stream.end(&octets), refused(Reason::LongStream, 0));
+    }
+    assert_eq!(stream.all_octets(), MOST_OCTETS);
 }
 
 #[test]
