@@ -6,6 +6,7 @@
 //!
 //! - [`Capture`] reads a BTSnoop file record by record; [`check()`] judges a whole file, [`survey`] passes records by
 //!   instalments, [`earlier`] compares two captures; [`Tally`] keeps count, [`drops_between`] tells losses.
+//! - [`stream`] reads a BTSnoop file as it arrives, chunk by chunk or from any [`std::io::Read`].
 //! - [`write_header`] and [`write_record`] write into a buffer, [`push_header`] and [`push_record`] at a `Vec`'s end.
 //! - [`Time`] converts a record's time field to Unix time and back, and to and from the system's clock.
 //! - [`radiotap`] and [`le`] read and write what stands before a frame or packet.
@@ -47,6 +48,7 @@ pub mod le;
 pub mod radiotap;
 mod record;
 mod refusal;
+pub mod stream;
 mod tally;
 mod time;
 mod write;

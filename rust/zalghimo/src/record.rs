@@ -1,6 +1,7 @@
 //! One BTSnoop record.
 
 use crate::answer::accepted;
+use crate::write::RECORD;
 #[cfg(doc)]
 use crate::Reason;
 use crate::{Refusal, Time};
@@ -19,6 +20,27 @@ pub struct RecordFields {
     pub time_field: i64,
 }
 
+impl RecordFields {
+    /// Whether the packet was received (flag bit 0), not sent.
+    pub fn is_received(&self) -> bool {
+        self.flags & 1 != 0
+    }
+
+    /// Whether the packet is a command or event (flag bit 1), not data.
+    pub fn is_command(&self) -> bool {
+        self.flags & 2 != 0
+    }
+
+    /// Time in Unix seconds and microseconds.
+    ///
+    /// # Errors
+    ///
+    /// [`Reason::Time`], as [`Time::from_field`] gives it. The record is whole all the same.
+    pub fn time(&self) -> Result<Time, Refusal> {
+        Time::from_field(self.time_field)
+    }
+}
+
 /// A record of a capture.
 #[derive(Clone, Copy, Debug, PartialEq, Eq, Hash)]
 pub struct Record<'a> {
@@ -29,6 +51,16 @@ pub struct Record<'a> {
 }
 
 impl<'a> Record<'a> {
+    /// The record at a place, with its packet.
+    pub(crate) fn new(place: usize, fields: RecordFields, packet: &'a [u8]) -> Record<'a> {
+        Record {
+            place,
+            next_place: place + RECORD + packet.len(),
+            fields,
+            packet,
+        }
+    }
+
     /// Where the record starts.
     pub fn place(&self) -> usize {
         self.place
@@ -61,12 +93,12 @@ impl<'a> Record<'a> {
 
     /// Whether the packet was received (flag bit 0), not sent.
     pub fn is_received(&self) -> bool {
-        self.fields.flags & 1 != 0
+        self.fields.is_received()
     }
 
     /// Whether the packet is a command or event (flag bit 1), not data.
     pub fn is_command(&self) -> bool {
-        self.fields.flags & 2 != 0
+        self.fields.is_command()
     }
 
     /// Packets lost since the capture began, modulo 2^32.
@@ -85,7 +117,7 @@ impl<'a> Record<'a> {
     ///
     /// [`Reason::Time`], as [`Time::from_field`] gives it. The record is whole all the same.
     pub fn time(&self) -> Result<Time, Refusal> {
-        Time::from_field(self.fields.time_field)
+        self.fields.time()
     }
 
     /// The packet, a part of the input.
@@ -106,17 +138,14 @@ pub fn record_at(octets: &[u8], place: usize) -> Result<Option<Record<'_>>, Refu
     if answer.kind == END {
         return Ok(None);
     }
-    Ok(Some(Record {
-        place,
-        next_place: answer.next as usize,
-        fields: RecordFields {
-            original_length: answer.original as u32,
-            flags: answer.flags as u32,
-            cumulative_drops: answer.drops as u32,
-            time_field: answer.time,
-        },
-        packet: &octets[answer.packet as usize..][..answer.included as usize],
-    }))
+    let fields = RecordFields {
+        original_length: answer.original as u32,
+        flags: answer.flags as u32,
+        cumulative_drops: answer.drops as u32,
+        time_field: answer.time,
+    };
+    let packet = &octets[answer.packet as usize..answer.next as usize];
+    Ok(Some(Record::new(place, fields, packet)))
 }
 
 /// The drops between two records, from their cumulative drops: later less earlier, modulo 2^32.

@@ -3,7 +3,8 @@
 use std::error::Error;
 use std::fmt;
 
-/// A refusal: its reason and its place, an offset in octets. A writer's refusal has place 0.
+/// A refusal: its reason and its place, an offset in octets in the input or in the stream. A writer's refusal has
+/// place 0.
 #[derive(Clone, Copy, Debug, PartialEq, Eq, Hash)]
 pub struct Refusal {
     reason: Reason,
@@ -13,8 +14,8 @@ pub struct Refusal {
 impl Refusal {
     /// The refusal that the library gives.
     pub(crate) fn new(number: u64, place: usize) -> Refusal {
-        let index = usize::try_from(number).ok().and_then(|n| n.checked_sub(1));
-        let reason = index.and_then(|index| Reason::ALL.get(index).copied());
+        let mut reasons = Reason::ALL.iter().copied();
+        let reason = reasons.find(|reason| u64::from(reason.number()) == number);
         Refusal {
             reason: reason.expect("the library refuses with the numbers of Reason"),
             place,
@@ -62,7 +63,7 @@ macro_rules! reasons {
         }
 
         impl Reason {
-            /// All reasons, in the order of their numbers from 1.
+            /// All reasons, in the order of their numbers.
             pub const ALL: &'static [Reason] = &[$(Reason::$name),*];
 
             /// The number.
@@ -121,6 +122,8 @@ reasons! {
     ValuesLength = 19, "the packed values are not of the summed length";
     /// Listing program only: input above 65,536 octets; place 65536.
     ListingInput = 20, "the input is above 65,536 octets";
+    /// A chunk takes the stream past 2^63 − 1 octets; place 0.
+    LongStream = 32, "a chunk takes the stream past 2^63 - 1 octets";
 }
 
 /// The reason in plain words.

@@ -1,9 +1,10 @@
 //! The running tally of a capture's records.
 
 use crate::answer::accepted;
+use crate::stream::Finished;
 #[cfg(doc)]
-use crate::Reason;
-use crate::{Record, Refusal};
+use crate::{stream::Stream, Reason};
+use crate::{Record, RecordFields, Refusal};
 use zalghimo_sys::btsnoop;
 
 /// A running tally, updated record by record. A new one is empty.
@@ -44,12 +45,25 @@ impl Tally {
     ///
     /// [`Reason::TallySum`], where a sum would pass 2^64 − 1. The tally is then as before.
     pub fn add(&mut self, record: &Record) -> Result<(), Refusal> {
+        self.add_numbers(record.fields(), record.included_length())
+    }
+
+    /// Adds a record of which a [`Stream`] tells the numbers.
+    ///
+    /// # Errors
+    ///
+    /// As [`Tally::add`].
+    pub fn add_finished(&mut self, record: &Finished) -> Result<(), Refusal> {
+        self.add_numbers(&record.fields, record.included_length)
+    }
+
+    fn add_numbers(&mut self, fields: &RecordFields, included_length: u32) -> Result<(), Refusal> {
         let answer = btsnoop::tally(
             &mut self.numbers,
-            record.original_length(),
-            record.included_length(),
-            record.flags(),
-            record.cumulative_drops(),
+            fields.original_length,
+            included_length,
+            fields.flags,
+            fields.cumulative_drops,
         );
         accepted(answer.head())
     }

@@ -10,7 +10,7 @@ use zalghimo_sys::btsnoop;
 const HEADER: usize = 16;
 
 /// Octets of a record before its packet.
-const RECORD: usize = 24;
+pub(crate) const RECORD: usize = 24;
 
 /// Writes a file header into an output at a place and answers the place after it.
 ///

@@ -114,33 +114,40 @@ fn full_tally_stays() {
 }
 
 #[test]
-fn reasons_are_numbered_from_1() {
-    for (index, reason) in Reason::ALL.iter().enumerate() {
-        assert_eq!(reason.number() as usize, index + 1);
-    }
-    assert_eq!(Reason::ALL.len(), 20);
+fn reasons_are_in_the_order_of_their_numbers() {
+    let numbers: Vec<u32> = Reason::ALL.iter().map(|reason| reason.number()).collect();
+    let wanted: Vec<u32> = (1..=20).chain([32]).collect();
+    assert_eq!(numbers, wanted);
 }
 
-/// The texts of an array in the C header of words, in their order.
-fn c_texts(array: &str) -> Vec<&'static str> {
-    let header = include_str!("../../../include/zalghimo_words.h");
-    let (_, texts) = header.split_once(array).expect("the array");
-    let (texts, _) = texts.split_once("};").expect("its end");
-    texts.split('"').skip(1).step_by(2).collect()
+const C_WORDS: &str = include_str!("../../../include/zalghimo_words.h");
+
+/// The constant of a reason in C.
+fn c_constant(reason: Reason) -> String {
+    let mut constant = "ZALGHIMO".to_string();
+    for letter in format!("{reason:?}").chars() {
+        if letter.is_uppercase() {
+            constant.push('_');
+        }
+        constant.push(letter.to_ascii_uppercase());
+    }
+    constant
 }
 
 #[test]
 fn words_are_those_of_the_c_header() {
-    let words = c_texts("words[] = {");
-    assert_eq!(words.len(), Reason::ALL.len() + 1);
     for reason in Reason::ALL {
-        assert_eq!(words[reason.number() as usize], reason.words());
+        let case = format!("case {}: return \"{reason}\";", c_constant(*reason));
+        assert!(C_WORDS.contains(&case), "{case}");
     }
+    assert_eq!(C_WORDS.matches("case ZALGHIMO_").count(), Reason::ALL.len());
 }
 
 #[test]
 fn names_are_those_of_the_c_header() {
-    let names = c_texts("names[] = {");
+    let (_, names) = C_WORDS.split_once("names[] = {").expect("the array");
+    let (names, _) = names.split_once("};").expect("its end");
+    let names: Vec<&str> = names.split('"').skip(1).step_by(2).collect();
     assert_eq!(names.len(), 32);
     for (bit, text) in (0..).zip(names) {
         assert_eq!(name(bit), (bit < 29).then_some(text), "bit {bit}");
