@@ -34,6 +34,23 @@ pub fn capture(prng: &mut Prng, size: usize) -> Vec<u8> {
     output
 }
 
+/// A capture of so many records, each with a packet of this length.
+pub fn even_capture(prng: &mut Prng, records: usize, length: usize) -> Vec<u8> {
+    let mut output = vec![0; 16 + records * (24 + length)];
+    let mut place = write_header(&mut output, 0, 1002).expect("room for the header");
+    for number in 0..records as u32 {
+        let entry = Entry {
+            original_length: length as u32 + number % 3,
+            flags: number % 4,
+            cumulative_drops: number / 1000,
+            time: YEAR_2000 + i64::from(number) * 1250,
+            packet: &prng.octets(length),
+        };
+        place = write_record(&mut output, place, &entry).expect("room for the record");
+    }
+    output
+}
+
 /// The records of a capture.
 pub fn entries(capture: &[u8]) -> Vec<Entry<'_>> {
     let mut entries = Vec::new();

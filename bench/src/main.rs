@@ -18,11 +18,13 @@ fn main() -> std::io::Result<()> {
     let folder = std::env::args().nth(1);
     let prng = &mut Prng::new(1);
     agree::btsnoop::damaged(prng);
+    agree::stream::damaged(prng);
     agree::radiotap::damaged(prng);
     agree::le::damaged(prng);
-    eprintln!("same answers to {} damaged inputs", 3 * agree::DAMAGED);
+    eprintln!("same answers to {} damaged inputs", agree::ALL_DAMAGED);
     let results = report::Results {
         captures: measure::captures::all(),
+        streams: measure::streams::all(),
         headers: measure::headers::all(),
         packets: measure::packets::all(),
     };

@@ -3,14 +3,18 @@
 pub mod btsnoop;
 pub mod le;
 pub mod radiotap;
+pub mod stream;
 
 use crate::library;
 use crate::plain::Refusal;
 use random::damage::{add_octets, change_octet, cut};
 use random::prng::Prng;
 
-/// How many damaged inputs of each format are compared.
+/// How many damaged inputs of each format, and how many streams, are compared.
 pub const DAMAGED: usize = 50_000;
+
+/// How many that are in all.
+pub const ALL_DAMAGED: usize = 4 * DAMAGED;
 
 /// Damages an input once or twice.
 pub fn damage(prng: &mut Prng, octets: &mut Vec<u8>) {

@@ -3,8 +3,8 @@
 use super::{refused, Refusal};
 
 const IDENTIFICATION: &[u8; 8] = b"btsnoop\0";
-const FILE_HEADER: usize = 16;
-const RECORD_HEADER: usize = 24;
+pub const FILE_HEADER: usize = 16;
+pub const RECORD_HEADER: usize = 24;
 
 /// What the check of a file tells.
 #[derive(Clone, Copy, Debug)]
@@ -48,12 +48,12 @@ pub struct Survey {
 
 /// The big-endian 32-bit number at a place of a header.
 #[inline]
-fn u32_at<const N: usize>(header: &[u8; N], place: usize) -> u32 {
+pub fn u32_at<const N: usize>(header: &[u8; N], place: usize) -> u32 {
     u32::from_be_bytes(header[place..place + 4].try_into().expect("four octets"))
 }
 
 /// The datalink code of a file header.
-fn header(input: &[u8]) -> Result<u32, Refusal> {
+pub fn header(input: &[u8]) -> Result<u32, Refusal> {
     let Some(header) = input.first_chunk::<FILE_HEADER>() else {
         return refused(1, input.len());
     };

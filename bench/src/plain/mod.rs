@@ -4,6 +4,7 @@ pub mod bit_by_bit;
 pub mod btsnoop;
 pub mod le;
 pub mod radiotap;
+pub mod stream;
 
 /// Why an input is refused, and where.
 #[derive(Clone, Copy, Debug)]

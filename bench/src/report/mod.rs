@@ -13,6 +13,7 @@ pub const PLOT: &str = "benchmarks.svg";
 /// All lines measured.
 pub struct Results {
     pub captures: Vec<Row>,
+    pub streams: Vec<Row>,
     pub headers: Vec<Row>,
     pub packets: Vec<Row>,
 }

@@ -8,6 +8,10 @@ use std::fmt::Write;
 #[rustfmt::skip]
 const HEADER_COLUMNS: [&str; 8] = ["Work", "Words", "Fields", "Ours", "Plain", "Ratio", "Bit by bit", "Ratio"];
 
+/// The columns of the table of streams.
+#[rustfmt::skip]
+const STREAM_COLUMNS: [&str; 8] = ["Packet", "Chunk", "Records", "Ours", "Plain", "Ratio", "Ours, GB/s", "Plain, GB/s"];
+
 /// A table with these columns, the first one of words and the others of numbers.
 fn table(title: &str, columns: &[&str], lines: impl Iterator<Item = Vec<String>>) -> String {
     let mut text = format!("### {title}\n\n| {} |\n|---|", columns.join(" | "));
@@ -40,6 +44,16 @@ fn capture(row: &Row) -> Vec<String> {
     line
 }
 
+fn stream(row: &Row) -> Vec<String> {
+    let mut line = capture(row);
+    let rate = |cost| {
+        row.rate(cost)
+            .map_or("–".into(), |rate| format!("{rate:.1}"))
+    };
+    line.extend([row.ours, row.plain].map(rate));
+    line
+}
+
 fn header(row: &Row) -> Vec<String> {
     let words = row.at.map_or("mixed".into(), |words| words.to_string());
     let mut line = vec![row.work.to_string(), words, row.items.to_string()];
@@ -68,6 +82,11 @@ pub fn all(results: &Results) -> String {
         &["Work", "Size", "Records", "Ours", "Plain", "Ratio"],
         by_work(&results.captures).into_iter().map(capture),
     );
+    let streams = table(
+        "Streams, nanoseconds per record",
+        &STREAM_COLUMNS,
+        results.streams.iter().map(stream),
+    );
     let headers = table(
         "Radiotap, nanoseconds per header",
         &HEADER_COLUMNS,
@@ -78,5 +97,5 @@ pub fn all(results: &Results) -> String {
         &["Work", "Ours", "Plain", "Ratio"],
         results.packets.iter().map(packet),
     );
-    captures + &headers + &packets
+    [captures, streams, headers, packets].concat()
 }

@@ -1,4 +1,4 @@
-//! The plot in SVG: cost per record by size, cost per header by words.
+//! The plot in SVG: cost per record by size, cost per header by words; of streams, cost per record and rate by chunk.
 
 mod axis;
 mod panel;
@@ -21,6 +21,12 @@ const CAPTURE_WORKS: [Work; 4] = [
 
 const HEADER_WORKS: [Work; 2] = [work("read", "#0b62a4"), work("fields", "#c8500a")];
 
+const STREAM_WORKS: [Work; 3] = [
+    work("64 octets", "#0b62a4"),
+    work("256 octets", "#c8500a"),
+    work("1500 octets", "#2a7d2e"),
+];
+
 const MAKERS: [Maker; 3] = [
     Maker {
         name: "ours",
@@ -42,13 +48,29 @@ const MAKERS: [Maker; 3] = [
     },
 ];
 
+/// Who reaches which rate.
+const RATES: [Maker; 2] = [
+    Maker {
+        cost: |row| row.rate(row.ours),
+        ..MAKERS[0]
+    },
+    Maker {
+        cost: |row| row.rate(row.plain),
+        ..MAKERS[1]
+    },
+];
+
 const STYLE: &str = "text { font: 13px sans-serif; fill: #222222; } .title { font-size: 15px; font-weight: bold; } \
     .grid { stroke: #dddddd; } .axis { stroke: #333333; }";
 
-/// The whole drawing.
-pub fn svg(results: &Results) -> String {
-    let captures = Panel {
-        left: 76.0,
+/// Where the panels of the two columns start, and the height of a line of panels.
+const LEFT: f64 = 76.0;
+const RIGHT: f64 = 638.0;
+const HEIGHT: f64 = 470.0;
+
+fn captures(results: &Results) -> Panel<'_> {
+    Panel {
+        left: LEFT,
         title: "Captures: cost per record",
         across: "octets of the capture (log scale)",
         up: "nanoseconds per record (log scale)",
@@ -57,11 +79,14 @@ pub fn svg(results: &Results) -> String {
         rows: results.captures.iter().collect(),
         works: &CAPTURE_WORKS,
         makers: &MAKERS[..2],
-    };
+    }
+}
+
+fn headers(results: &Results) -> Panel<'_> {
     // Only headers with six fields a word lie on one line.
     let six = |fields: usize, words: Option<usize>| words.is_some_and(|words| fields == 6 * words);
-    let headers = Panel {
-        left: 638.0,
+    Panel {
+        left: RIGHT,
         title: "Radiotap: cost per header, six fields a word",
         across: "presence words",
         up: "nanoseconds per header (log scale)",
@@ -74,12 +99,44 @@ pub fn svg(results: &Results) -> String {
             .collect(),
         works: &HEADER_WORKS,
         makers: &MAKERS,
-    };
+    }
+}
+
+fn streams(results: &Results) -> Panel<'_> {
+    Panel {
+        left: LEFT,
+        title: "Streams: cost per record, by the packet's length",
+        across: "octets of a chunk (log scale)",
+        up: "nanoseconds per record (log scale)",
+        logarithmic: true,
+        written: size,
+        rows: results.streams.iter().collect(),
+        works: &STREAM_WORKS,
+        makers: &MAKERS[..2],
+    }
+}
+
+fn stream_rates(results: &Results) -> Panel<'_> {
+    Panel {
+        left: RIGHT,
+        title: "Streams: rate, by the packet's length",
+        up: "GB/s (log scale)",
+        makers: &RATES,
+        ..streams(results)
+    }
+}
+
+/// The whole drawing: two lines of panels.
+pub fn svg(results: &Results) -> String {
+    let height = 2.0 * HEIGHT;
     format!(
-        "<svg xmlns=\"http://www.w3.org/2000/svg\" width=\"1128\" height=\"470\" viewBox=\"0 0 1128 470\">\n\
+        "<svg xmlns=\"http://www.w3.org/2000/svg\" width=\"1128\" height=\"{height}\" viewBox=\"0 0 1128 {height}\">\n\
          <style>{STYLE}</style>\n\
-         <rect width=\"1128\" height=\"470\" fill=\"#ffffff\"/>\n{}{}</svg>\n",
-        captures.svg(),
-        headers.svg()
+         <rect width=\"1128\" height=\"{height}\" fill=\"#ffffff\"/>\n{}{}\
+         <g transform=\"translate(0 {HEIGHT})\">\n{}{}</g>\n</svg>\n",
+        captures(results).svg(),
+        headers(results).svg(),
+        streams(results).svg(),
+        stream_rates(results).svg()
     )
 }
