@@ -7,6 +7,7 @@ mod answers_numbers;
 mod answers_radiotap;
 mod answers_radiotap_fields;
 mod answers_radiotap_writing;
+mod answers_stream;
 mod answers_tally;
 mod question_lines;
 
@@ -14,7 +15,7 @@ use libc::STDOUT_FILENO;
 use question_lines::QUESTION_LENGTH;
 
 fn main() {
-    let mut space = io::large_buffer();
+    let mut space = question_lines::room_for_all();
     let n = io::read_full(libc::STDIN_FILENO, &mut space);
     run(&space[..n]);
 }
@@ -72,6 +73,9 @@ fn ask<'a>(op: u8, q: &[u8], first: &'a [u8], second: &'a [u8]) {
         return;
     }
     if answers_tally::answer(op, q, first) {
+        return;
+    }
+    if answers_stream::answer(op, q, first, second) {
         return;
     }
     answers_numbers::answer(op, q, first);

@@ -10,6 +10,13 @@ use libc::STDOUT_FILENO;
 // The length of a question before its octets: its number, five parameters and two lengths.
 pub const QUESTION_LENGTH: usize = 49;
 
+// Room for all questions. The `ensures` gives only its length, which lending it needs.
+pub fn room_for_all() -> [u8; 131072]
+    ensures { λ r. ⌜ 131072 ≡ length r ⌝ }
+{
+    [0; 131072]
+}
+
 // How many octets the question at the start of an input takes; 0 where no whole question stands there.
 pub fn question_length(input: &[u8]) -> usize
     ensures { λ r. ⌜ r ≡ questionLength (now (input .entry)) ⌝ }

@@ -85,7 +85,7 @@ fn answer_write_record(question: &Question) -> String {
 }
 
 /// A file header's octets.
-fn file_header(version: u32, datalink: u32) -> Vec<u8> {
+pub fn file_header(version: u32, datalink: u32) -> Vec<u8> {
     let numbers = [version.to_be_bytes(), datalink.to_be_bytes()].concat();
     [&b"btsnoop\0"[..], &numbers].concat()
 }
@@ -119,8 +119,8 @@ fn timed(time: i64, packet: &[u8]) -> Vec<u8> {
     [file_header(1, 1002), record].concat()
 }
 
-/// A file of three records with packets of 4, 0 and 2 octets.
-fn three_records() -> Vec<u8> {
+/// A file of three records with packets of 4, 0 and 2 octets, which start at 16, 44 and 68.
+pub fn three_records() -> Vec<u8> {
     let fields = Fields {
         original_length: 9,
         flags: u32::MAX,

@@ -6,16 +6,17 @@ mod le;
 mod numbers;
 mod question;
 mod radiotap;
+mod stream;
 mod tally;
 
 use question::Question;
 use std::process::ExitCode;
 use std::{env, fs, io};
 
-/// The most octets that the questions may take: the proved program reads no more than 65,536.
-const LIMIT: usize = 65_000;
+/// The most octets that the questions may take: the proved program reads no more.
+const LIMIT: usize = 131_072;
 
-/// The questions of all formats, of the tally and of numbers in octets.
+/// The questions of all formats, of the tally, of numbers in octets and of streams.
 fn questions() -> Vec<Question> {
     let formats = [
         btsnoop::questions(),
@@ -23,6 +24,7 @@ fn questions() -> Vec<Question> {
         le::questions(),
         tally::questions(),
         numbers::questions(),
+        stream::questions(),
     ];
     formats.into_iter().flatten().collect()
 }
@@ -35,6 +37,7 @@ fn answer(question: &Question) -> String {
         16..=17 => le::answer(question),
         18 => tally::answer(question),
         19 => numbers::answer(question),
+        20 => stream::answer(question),
         op => panic!("no such op: {op}"),
     };
     format!("{} {line}\n", question.op)
