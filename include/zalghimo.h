@@ -41,7 +41,7 @@ enum {
     ZALGHIMO_INCLUDED_ABOVE_ORIGINAL = 6, /* included length above original length; the record's start + 4 */
     ZALGHIMO_SHORT_PACKET = 7,            /* packet octets run past the input, or LE packet under 4 octets (5 for the
                                            * coded PHY); the record's start, or 10 */
-    ZALGHIMO_LE_VALUE = 8,                /* RF channel above 39, PDU type 7 or PHY 3; 0 for the channel, otherwise 8 */
+    ZALGHIMO_RF_CHANNEL = 8,              /* LE: RF channel above 39; 0 */
     ZALGHIMO_RADIOTAP_LENGTH = 9,         /* radiotap length below 8 or above the input; 2 */
     ZALGHIMO_WORD_PAST_LENGTH = 10,       /* a presence word runs past the radiotap length; 4 */
     ZALGHIMO_NINTH_WORD = 11,             /* a ninth presence word is called for; 4 */
@@ -54,6 +54,8 @@ enum {
     ZALGHIMO_UNKNOWN_BIT = 18,            /* writer: a presence bit unknown to the edition, 29 to 31 included; 0 */
     ZALGHIMO_VALUES_LENGTH = 19,          /* writer: packed values not of the summed length; 0 */
     ZALGHIMO_LISTING_INPUT = 20,          /* listing program only: input above 65,536 octets; 65536 */
+    ZALGHIMO_RESERVED_PDU_TYPE = 21,      /* LE: PDU type 7; 8, where the flags start */
+    ZALGHIMO_RESERVED_PHY = 22,           /* LE: PHY 3; 8, where the flags start */
     ZALGHIMO_LONG_STREAM = 32             /* a chunk takes the stream past 2^63 - 1 octets; 0 */
 };
 
@@ -229,7 +231,7 @@ enum {
     ZALGHIMO_KNOWN_OFFENCES = 8
 };
 
-/* PDU types, `pdu_type`. 7 is refused. */
+/* PDU types, `pdu_type`. 7 is refused with RESERVED_PDU_TYPE. */
 enum {
     ZALGHIMO_PDU_ADVERTISING_OR_DATA = 0, /* direction not specified */
     ZALGHIMO_PDU_AUXILIARY_ADVERTISING = 1,
@@ -240,7 +242,7 @@ enum {
     ZALGHIMO_PDU_BROADCAST_ISOCHRONOUS = 6
 };
 
-/* PHYs, `phy`. 3 is refused. */
+/* PHYs, `phy`. 3 is refused with RESERVED_PHY. */
 enum { ZALGHIMO_PHY_1M = 0, ZALGHIMO_PHY_2M = 1, ZALGHIMO_PHY_CODED = 2 };
 
 /* `dependent` for auxiliary advertising: a number. */
@@ -256,10 +258,11 @@ enum { ZALGHIMO_MIC_CHECKED = 1, ZALGHIMO_MIC_PASSED = 2 };
 
 /* Reads an LE pseudo-header: its values as they stand, which of them are known, PDU type, PHY, what depends on the PDU
  * type, and the place of the packet, which is the rest of the input.
- * Refusals: SHORT_HEADER, LE_VALUE (channel, PDU type, PHY), SHORT_PACKET. */
+ * Refusals: SHORT_HEADER, RF_CHANNEL, RESERVED_PDU_TYPE, RESERVED_PHY, SHORT_PACKET. */
 zalghimo_le zalghimo_le_read(const uint8_t *input, size_t length);
 
-/* Writes an LE pseudo-header and its packet. Refusals: LE_VALUE (channel, PDU type, PHY), SHORT_PACKET, NO_ROOM. */
+/* Writes an LE pseudo-header and its packet.
+ * Refusals: RF_CHANNEL, RESERVED_PDU_TYPE, RESERVED_PHY, SHORT_PACKET, NO_ROOM. */
 zalghimo_written zalghimo_le_write(uint8_t *output, size_t length, size_t place, uint8_t rf_channel, int8_t signal,
                                    int8_t noise, uint8_t offences, uint32_t reference, uint16_t flags,
                                    const uint8_t *packet, size_t packet_length);

@@ -16,7 +16,7 @@ static inline const char *zalghimo_refusal_words(uint64_t number)
     case ZALGHIMO_SHORT_RECORD: return "1 to 23 octets remain where a record starts";
     case ZALGHIMO_INCLUDED_ABOVE_ORIGINAL: return "the included length is above the original length";
     case ZALGHIMO_SHORT_PACKET: return "the packet runs past the input, or an LE packet is too short";
-    case ZALGHIMO_LE_VALUE: return "RF channel above 39, PDU type 7 or PHY 3";
+    case ZALGHIMO_RF_CHANNEL: return "the RF channel is above 39";
     case ZALGHIMO_RADIOTAP_LENGTH: return "the radiotap length is below 8 or above the input";
     case ZALGHIMO_WORD_PAST_LENGTH: return "a presence word runs past the radiotap length";
     case ZALGHIMO_NINTH_WORD: return "a ninth presence word is called for";
@@ -29,6 +29,8 @@ static inline const char *zalghimo_refusal_words(uint64_t number)
     case ZALGHIMO_UNKNOWN_BIT: return "a presence bit is not known to the edition";
     case ZALGHIMO_VALUES_LENGTH: return "the packed values are not of the summed length";
     case ZALGHIMO_LISTING_INPUT: return "the input is above 65,536 octets";
+    case ZALGHIMO_RESERVED_PDU_TYPE: return "the PDU type is 7, which is reserved";
+    case ZALGHIMO_RESERVED_PHY: return "the PHY is 3, which is reserved";
     case ZALGHIMO_LONG_STREAM: return "a chunk takes the stream past 2^63 - 1 octets";
     default: return "a number that is not in the list";
     }

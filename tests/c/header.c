@@ -274,6 +274,11 @@ static void le_reading(void)
     };
     le("le_read", zalghimo_le_read(input, 15));
     le("le_read of 14 octets", zalghimo_le_read(input, 14));
+    /* Flags 0xC380, and 0xC000. */
+    static const uint8_t type_7[14] = { 0, 0, 0, 0, 0, 0, 0, 0, 0x80, 0xC3 };
+    static const uint8_t phy_3[14] = { 0, 0, 0, 0, 0, 0, 0, 0, 0, 0xC0 };
+    le("le_read of PDU type 7", zalghimo_le_read(type_7, 14));
+    le("le_read of PHY 3", zalghimo_le_read(phy_3, 14));
 }
 
 /* What is read behind flags alone. */
@@ -289,6 +294,8 @@ static void le_writing(void)
     written("le_write", zalghimo_le_write(out, 18, 1, 37, -70, -95, 6, 0x8E89BED6u, 0xBEB2, le_packet, 5));
     octets(18);
     written("le_write of channel 40", zalghimo_le_write(out, 18, 1, 40, -70, -95, 6, 0, 0, le_packet, 5));
+    written("le_write of PDU type 7", zalghimo_le_write(out, 18, 1, 39, 0, 0, 0, 0, ZALGHIMO_LE_PDU_TYPE, le_packet, 5));
+    written("le_write of PHY 3", zalghimo_le_write(out, 18, 1, 39, 0, 0, 0, 0, ZALGHIMO_LE_PHY, le_packet, 5));
     le_flags("le_read, signal", ZALGHIMO_LE_SIGNAL_KNOWN);
     le_flags("le_read, noise", ZALGHIMO_LE_NOISE_KNOWN);
     le_flags("le_read, reference", ZALGHIMO_LE_REFERENCE_KNOWN);
@@ -364,7 +371,7 @@ static void constants(void)
     CONSTANT(ZALGHIMO_SHORT_RECORD);
     CONSTANT(ZALGHIMO_INCLUDED_ABOVE_ORIGINAL);
     CONSTANT(ZALGHIMO_SHORT_PACKET);
-    CONSTANT(ZALGHIMO_LE_VALUE);
+    CONSTANT(ZALGHIMO_RF_CHANNEL);
     CONSTANT(ZALGHIMO_RADIOTAP_LENGTH);
     CONSTANT(ZALGHIMO_WORD_PAST_LENGTH);
     CONSTANT(ZALGHIMO_NINTH_WORD);
@@ -377,6 +384,8 @@ static void constants(void)
     CONSTANT(ZALGHIMO_UNKNOWN_BIT);
     CONSTANT(ZALGHIMO_VALUES_LENGTH);
     CONSTANT(ZALGHIMO_LISTING_INPUT);
+    CONSTANT(ZALGHIMO_RESERVED_PDU_TYPE);
+    CONSTANT(ZALGHIMO_RESERVED_PHY);
     CONSTANT(ZALGHIMO_LONG_STREAM);
 
     CONSTANT(ZALGHIMO_RADIOTAP_MOST_FIELDS);

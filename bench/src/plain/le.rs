@@ -35,8 +35,11 @@ pub fn read(input: &[u8]) -> Result<Reading<'_>, Refusal> {
     if rf_channel > 39 {
         return refused(8, 0);
     }
-    if pdu_type == 7 || phy == 3 {
-        return refused(8, 8);
+    if pdu_type == 7 {
+        return refused(21, 8);
+    }
+    if phy == 3 {
+        return refused(22, 8);
     }
     if packet.len() < 4 + usize::from(phy == CODED_PHY) {
         return refused(7, HEADER);

@@ -33,12 +33,12 @@ const CHANNEL_ABOVE: Refusal = Refusal {
 };
 // The refusal of the reserved PDU type, at the flags' place.
 const PDU_TYPE_RESERVED: Refusal = Refusal {
-    number: 8,
+    number: 21,
     place: 8,
 };
 // The refusal of the reserved PHY, at the flags' place.
 const PHY_RESERVED: Refusal = Refusal {
-    number: 8,
+    number: 22,
     place: 8,
 };
 

@@ -1,20 +1,22 @@
 -- Each refusal is given exactly when its condition holds and no earlier one does: what each case answers, and that every
 -- input is one of the cases.
 -- Assumes nothing.
-use Prim.Native.Nat.{ℕ, _+_}
-use mathlib.Core.Path.{_≡_, refl, sym, _∙_, subst}
+use Prim.Native.Nat.{ℕ, _+_, _≤_}
+use mathlib.Core.Path.{_≡_, refl, sym, ap, _∙_, subst}
 use mathlib.Core.Logic.{_↔_}
-use mathlib.Core.Bool.{Bool, true, false}
+use mathlib.Core.Bool.{Bool, true, false, cond}
 use mathlib.Core.List.{List}
 use lib.ListN.{length, drop}
+use native.Mathlib.Omega.{arith}
 use lib.Dec.{leb, ltb, eqb}
 use borrow.Author.Tests.{ltb-true, ltb-false, leb-true, leb-false, eqb-true, eqb-false, lt-ltb, le-ltb, le-leb, lt-leb, eq-eqb, ne-eqb}
-use Rattle.refusals.specs.Refusals.{Answer}
+use Rattle.refusals.specs.Refusals.{Answer, refused, given}
+use Rattle.refusals.proofs.Orders.{not-refused, other-number}
 use Rattle.le_rules.specs.declared.Values.{Values}
 use Rattle.le_rules.specs.Flags.{pduType, phy}
-use Rattle.le_rules.specs.Reading.{headerLength, valuesIn, lastChannel, reservedType, reservedPhy, Range, outOf, within, rangeOf, leastPacket, Header, readingOf}
+use Rattle.le_rules.specs.Reading.{headerLength, valuesIn, Fault, faultNumber, faultPlace, channelAbove, pduTypeReserved, phyReserved, lastChannel, reservedType, reservedPhy, Range, outOf, within, rangeOf, leastPacket, Header, readingOf}
 use Rattle.le_rules.specs.Writing.{writing}
-use Rattle.le_rules.specs.Orders.{JudgedAs, channelFault, pduTypeFault, phyFault, noFault, RangeExactly, Judged, Reads, ReadingExactly, Writes, WritingExactly}
+use Rattle.le_rules.specs.Orders.{JudgedAs, channelFault, pduTypeFault, phyFault, noFault, RangeExactly, Judged, Reads, ReadingExactly, Writes, WritingExactly, FaultExactly, FaultsExactly}
 
 -- cases that tell what is answered, and one of them that is there: an answer is given exactly in its case
 exactly : {A : Type 0} (Case : A → Type 0) (x : A) → ((a : A) → Case a → x ≡ a) → (a : A) × Case a → (b : A)
@@ -118,3 +120,66 @@ module _ (size at : ℕ) (v : Values) (packet : List ℕ) where
 pub writing-exactly : WritingExactly
 writing-exactly size at v packet a =
     exactly (Writes size at v packet) (writing size at v packet) (writing-is size at v packet) (writes size at v packet) a
+
+-- the fault that a number tells
+abbrev faultOf : (number : ℕ) → Range
+faultOf number =
+    cond (eqb number (faultNumber channelAbove))
+    (outOf channelAbove)
+    (cond (eqb number (faultNumber pduTypeReserved))
+    (outOf pduTypeReserved)
+    (cond (eqb number (faultNumber phyReserved)) (outOf phyReserved) within))
+
+-- a fault is told by its number
+fault-told : (f : Fault) → faultOf (faultNumber f) ≡ outOf f
+fault-told channelAbove = refl
+fault-told pduTypeReserved = refl
+fault-told phyReserved = refl
+
+same-fault : (g f : Fault) → faultNumber g ≡ faultNumber f → outOf g ≡ outOf f
+same-fault g f e = sym (fault-told g) ∙ ap faultOf e ∙ fault-told f
+
+-- and by no number that tells none
+no-fault : (f : Fault) {n : ℕ} → faultOf n ≡ within → n ≡ faultNumber f → ⊥
+no-fault f none e = let told = sym none ∙ ap faultOf e ∙ fault-told f in let z : _≡_ {A = ℕ} 0 1 = cc in omega arith
+
+module _ (f : Fault) (q : ℕ) where
+  -- what a refusal with a fault's number shows, by the reader and by the writer
+  fault-read : (s : List ℕ) {a : Answer Header} → Reads s a → a ≡ refused (faultNumber f) q
+      → (headerLength ≤ length s) × (Judged (valuesIn s) (outOf f) × (q ≡ faultPlace f))
+  fault-read s (Reads.short l) e = absurd (other-number (no-fault f refl) e)
+  fault-read s (Reads.fault g l r) e =
+      let same = same-fault g f (cc) in (l, (subst (Judged (valuesIn s)) same r, cc))
+  fault-read s (Reads.few l r p) e = absurd (other-number (no-fault f refl) e)
+  fault-read s (Reads.accepted l r p) e = absurd (not-refused e)
+
+  fault-written : (size at : ℕ) (v : Values) (packet : List ℕ) {a : Answer ℕ} → Writes size at v packet a
+      → a ≡ refused (faultNumber f) q → Judged v (outOf f) × (q ≡ 0)
+  fault-written size at v packet (Writes.fault g r) e = (subst (Judged v) (same-fault g f (cc)) r, cc)
+  fault-written size at v packet (Writes.few r p) e = absurd (other-number (no-fault f refl) e)
+  fault-written size at v packet (Writes.full r p o) e = absurd (other-number (no-fault f refl) e)
+  fault-written size at v packet (Writes.accepted r p o) e = absurd (not-refused e)
+
+-- a fault is refused with its number exactly where it is the first
+fault-exactly : (f : Fault) → FaultExactly f (faultNumber f) (faultPlace f)
+fault-exactly f =
+    record {
+      whenRead =
+          λ s q. (
+            λ e. fault-read f q s (reading-exactly s (refused (faultNumber f) q) .0 e) refl,
+            λ h. reading-is s _ (Reads.fault f (h .0) (h .1 .0)) ∙ rw (h .1 .1),
+          );
+      whenWritten =
+          λ size at v packet q. (
+            λ e. fault-written f q size at v packet (writing-exactly size at v packet (refused (faultNumber f) q) .0 e) refl,
+            λ h. writing-is size at v packet _ (Writes.fault f (h .0)) ∙ rw (h .1),
+          );
+    }
+
+pub faults-exactly : FaultsExactly
+faults-exactly =
+    record {
+      channel = fault-exactly channelAbove;
+      pduType = fault-exactly pduTypeReserved;
+      phy = fault-exactly phyReserved;
+    }

@@ -52,3 +52,17 @@ pub data Writes (size at : ℕ) (v : Values) (packet : List ℕ) : Answer ℕ �
 abbrev pub WritingExactly : Type 0
 WritingExactly = (size at : ℕ) (v : Values) (packet : List ℕ) (answer : Answer ℕ)
     → (writing size at v packet ≡ answer) ↔ Writes size at v packet answer
+
+-- Request W-202: the number alone says which value is out of range. Reading refuses with a fault's number exactly where a
+-- whole header's first fault is this one, at its place; writing exactly where the values' first fault is, at place 0
+pub record FaultExactly (f : Fault) (number place : ℕ) : Type 0 where
+  pub whenRead : (s : List ℕ) (q : ℕ)
+      → (readingOf s ≡ refused number q) ↔ ((headerLength ≤ length s) × (Judged (valuesIn s) (outOf f) × (q ≡ place)))
+  pub whenWritten : (size at : ℕ) (v : Values) (packet : List ℕ) (q : ℕ)
+      → (writing size at v packet ≡ refused number q) ↔ (Judged v (outOf f) × (q ≡ 0))
+
+-- 8 for the RF channel only, 21 for PDU type 7 and 22 for PHY 3, both at place 8
+pub record FaultsExactly : Type 0 where
+  pub channel : FaultExactly channelAbove 8 0
+  pub pduType : FaultExactly pduTypeReserved 21 8
+  pub phy : FaultExactly phyReserved 22 8

@@ -32,11 +32,11 @@ pub data Fault : Type 0 where
   pduTypeReserved : Fault
   phyReserved : Fault
 
--- 8 for each of them
+-- the number of each (request W-202): 8 for the channel, 21 for the PDU type, 22 for the PHY
 abbrev pub faultNumber : Fault → ℕ
 faultNumber channelAbove = 8
-faultNumber pduTypeReserved = 8
-faultNumber phyReserved = 8
+faultNumber pduTypeReserved = 21
+faultNumber phyReserved = 22
 
 -- the place of each: 0 for the channel, 8 for the others
 abbrev pub faultPlace : Fault → ℕ
@@ -89,7 +89,7 @@ judged packet v (outOf fault) = refused (faultNumber fault) (faultPlace fault)
 judged packet v within =
     cond (packetTest (v .flags) packet) (given (headerOf v)) (refused shortPacket headerLength)
 
--- the reading, in the order 1, channel, PDU type, PHY, 7
+-- the reading, in the order 1, channel (8), PDU type (21), PHY (22), 7
 unfoldable pub readingOf : List ℕ → Answer Header
 readingOf s =
     cond (ltb (length s) headerLength)

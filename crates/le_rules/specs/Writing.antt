@@ -32,7 +32,8 @@ writingJudged size at v packet within =
     (refused noRoom 0))
     (refused shortPacket 0)
 
--- what writing answers, in the order channel, PDU type, PHY, 7, 13, all at place 0: the place after what was written
+-- what writing answers, in the order channel (8), PDU type (21), PHY (22), 7, 13, all at place 0: the place after what was
+-- written
 unfoldable pub writing : (size at : ℕ) → Values → List ℕ → Answer ℕ
 writing size at v packet = writingJudged size at v packet (rangeOf (v .channel) (v .flags))
 

@@ -169,9 +169,9 @@ P11′ edition =
 abbrev pub P12 : Example
 P12 = record { question = asLe (40 ∷ replicate 13 0x00); reply = le (refused 8 0) }
 
--- P13: LE, channel 0, flags 0xC000, as 14 octets, all others 0
+-- P13: LE, channel 0, flags 0xC000, as 14 octets, all others 0; 22 by request W-202
 abbrev pub P13 : Example
-P13 = record { question = asLe (replicate 8 0x00 ++ (0x00 ∷ 0xc0 ∷ replicate 4 0x00)); reply = le (refused 8 8) }
+P13 = record { question = asLe (replicate 8 0x00 ++ (0x00 ∷ 0xc0 ∷ replicate 4 0x00)); reply = le (refused 22 8) }
 
 -- P8 and P9 in every served edition, P10 and P11 in edition 0 too
 abbrev pub examples : List Example

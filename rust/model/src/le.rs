@@ -115,9 +115,11 @@ impl Values {
     /// Judges values and packet, in the order of the rules.
     fn judge(&self, packet: &[u8]) -> Result<(), Refusal> {
         if self.rf_channel > LAST_RF_CHANNEL {
-            Err(Reason::LeValue.at(RF_CHANNEL_PLACE))
-        } else if self.pdu_type() == RESERVED_PDU_TYPE || self.phy() == RESERVED_PHY {
-            Err(Reason::LeValue.at(FLAGS_PLACE))
+            Err(Reason::RfChannel.at(RF_CHANNEL_PLACE))
+        } else if self.pdu_type() == RESERVED_PDU_TYPE {
+            Err(Reason::ReservedPduType.at(FLAGS_PLACE))
+        } else if self.phy() == RESERVED_PHY {
+            Err(Reason::ReservedPhy.at(FLAGS_PLACE))
         } else if packet.len() < self.shortest_packet() {
             Err(Reason::ShortPacket.at(HEADER))
         } else {

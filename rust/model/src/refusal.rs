@@ -10,7 +10,7 @@ pub enum Reason {
     ShortRecord = 5,
     IncludedAboveOriginal = 6,
     ShortPacket = 7,
-    LeValue = 8,
+    RfChannel = 8,
     RadiotapLength = 9,
     WordPastLength = 10,
     NinthWord = 11,
@@ -23,6 +23,8 @@ pub enum Reason {
     UnknownBit = 18,
     ValuesLength = 19,
     ListingInput = 20,
+    ReservedPduType = 21,
+    ReservedPhy = 22,
     LongStream = 32,
 }
 

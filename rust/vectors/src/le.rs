@@ -250,6 +250,7 @@ fn write_orders(list: &mut Vec<Question>) {
         ..with_flags(0xC380)
     };
     list.push(write(4, 9, &all, 3));
+    list.push(write(4, 9, &with_flags(0xC380), 3));
     list.push(write(4, 9, &with_flags(0x0380), 3));
     list.push(write(4, 9, &with_flags(0xC000), 3));
     list.push(write(4, 9, &SAMPLE, 3));

@@ -112,8 +112,8 @@ impl<'a> Packet<'a> {
     ///
     /// # Errors
     ///
-    /// In this order: [`Reason::ShortHeader`]; [`Reason::LeValue`] for the RF channel, the PDU type, the PHY;
-    /// [`Reason::ShortPacket`] for a packet of less than 4 octets, 5 for [`Phy::Coded`].
+    /// In this order: [`Reason::ShortHeader`], [`Reason::RfChannel`], [`Reason::ReservedPduType`],
+    /// [`Reason::ReservedPhy`]; [`Reason::ShortPacket`] for a packet of less than 4 octets, 5 for [`Phy::Coded`].
     pub fn read(octets: &'a [u8]) -> Result<Packet<'a>, Refusal> {
         let answer = zalghimo_sys::le::read(octets);
         accepted(answer.head())?;
@@ -202,7 +202,8 @@ impl<'a> Packet<'a> {
 ///
 /// # Errors
 ///
-/// In this order: [`Reason::LeValue`], [`Reason::ShortPacket`], [`Reason::NoRoom`]. Nothing is changed then.
+/// In this order: [`Reason::RfChannel`], [`Reason::ReservedPduType`], [`Reason::ReservedPhy`],
+/// [`Reason::ShortPacket`], [`Reason::NoRoom`]. Nothing is changed then.
 pub fn write(
     output: &mut [u8],
     place: usize,
@@ -226,7 +227,8 @@ pub fn write(
 ///
 /// # Errors
 ///
-/// In this order: [`Reason::LeValue`], [`Reason::ShortPacket`]. The octets are then as before.
+/// In this order: [`Reason::RfChannel`], [`Reason::ReservedPduType`], [`Reason::ReservedPhy`],
+/// [`Reason::ShortPacket`]. The octets are then as before.
 pub fn push(octets: &mut Vec<u8>, values: &Values, packet: &[u8]) -> Result<(), Refusal> {
     write::push(octets, HEADER + packet.len(), |output, place| {
         write(output, place, values, packet)

@@ -96,8 +96,8 @@ reasons! {
     IncludedAboveOriginal = 6, "the included length is above the original length";
     /// Packet octets run past the input, at the record's start, or LE packet too short, at place 10.
     ShortPacket = 7, "the packet runs past the input, or an LE packet is too short";
-    /// LE: RF channel above 39, at place 0; PDU type 7 or PHY 3, at place 8.
-    LeValue = 8, "RF channel above 39, PDU type 7 or PHY 3";
+    /// LE: RF channel above 39; place 0.
+    RfChannel = 8, "the RF channel is above 39";
     /// Radiotap length below 8 or above the input; place 2.
     RadiotapLength = 9, "the radiotap length is below 8 or above the input";
     /// A presence word runs past the radiotap length; place 4.
@@ -122,6 +122,10 @@ reasons! {
     ValuesLength = 19, "the packed values are not of the summed length";
     /// Listing program only: input above 65,536 octets; place 65536.
     ListingInput = 20, "the input is above 65,536 octets";
+    /// LE: PDU type 7; place 8, where the flags start.
+    ReservedPduType = 21, "the PDU type is 7, which is reserved";
+    /// LE: PHY 3; place 8, where the flags start.
+    ReservedPhy = 22, "the PHY is 3, which is reserved";
     /// A chunk takes the stream past 2^63 − 1 octets; place 0.
     LongStream = 32, "a chunk takes the stream past 2^63 - 1 octets";
 }

@@ -118,5 +118,5 @@ fn p12_rf_channel_40() {
 
 #[test]
 fn p13_phy_3() {
-    assert_eq!(refused(Packet::read(&le(0, 0xC000))), (8, 8));
+    assert_eq!(refused(Packet::read(&le(0, 0xC000))), (22, 8));
 }

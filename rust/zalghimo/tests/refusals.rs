@@ -37,7 +37,9 @@ fn records() {
 #[test]
 fn le_packets() {
     assert_eq!(refused(Packet::read(&[0; 9])), (1, 9));
-    assert_eq!(refused(Packet::read(&le(0, 0x0380))), (8, 8));
+    assert_eq!(refused(Packet::read(&le(40, 0xC380))), (8, 0));
+    assert_eq!(refused(Packet::read(&le(0, 0xC380))), (21, 8));
+    assert_eq!(refused(Packet::read(&le(0, 0xC000))), (22, 8));
     assert_eq!(refused(Packet::read(&le(0, 0)[..13])), (7, 10));
     assert_eq!(refused(Packet::read(&le(0, 0x8000))), (7, 10));
 }
@@ -66,12 +68,15 @@ fn writers_leave_the_output() {
         refused(write_header(&mut output, usize::MAX, 1001)),
         (13, 0)
     );
-    let channel = Values {
-        rf_channel: 40,
-        ..Default::default()
-    };
-    let le_channel = zalghimo::le::write(&mut output, 0, &channel, &RESET);
-    assert_eq!(refused(le_channel), (8, 0));
+    for (rf_channel, flags, number) in [(40, 0xC380, 8), (0, 0xC380, 21), (0, 0xC000, 22)] {
+        let values = Values {
+            rf_channel,
+            flags,
+            ..Default::default()
+        };
+        let written = zalghimo::le::write(&mut output, 0, &values, &RESET);
+        assert_eq!(refused(written), (number, 0));
+    }
     let write = zalghimo::radiotap::write;
     assert_eq!(refused(write(&mut output, 0, 4, 0, &[])), (15, 0));
     assert_eq!(refused(write(&mut output, 0, 1, 1 << 14, &[])), (18, 0));
@@ -116,7 +121,7 @@ fn full_tally_stays() {
 #[test]
 fn reasons_are_in_the_order_of_their_numbers() {
     let numbers: Vec<u32> = Reason::ALL.iter().map(|reason| reason.number()).collect();
-    let wanted: Vec<u32> = (1..=20).chain([32]).collect();
+    let wanted: Vec<u32> = (1..=22).chain([32]).collect();
     assert_eq!(numbers, wanted);
 }
 

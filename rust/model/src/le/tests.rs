@@ -25,7 +25,7 @@ fn with_flags(flags: u16, packet: usize) -> Vec<u8> {
 fn p12_channel_40() {
     let mut octets = ZEROS;
     octets[0] = 40;
-    assert_eq!(read(&octets), Err(Reason::LeValue.at(0)));
+    assert_eq!(read(&octets), Err(Reason::RfChannel.at(0)));
     octets[0] = 39;
     assert!(read(&octets).is_ok());
 }
@@ -34,7 +34,7 @@ fn p12_channel_40() {
 fn p13_phy_3() {
     let octets = with_flags(0xC000, 4);
     assert_eq!(octets.len(), 14);
-    assert_eq!(read(&octets), Err(Reason::LeValue.at(8)));
+    assert_eq!(read(&octets), Err(Reason::ReservedPhy.at(8)));
 }
 
 #[test]
@@ -62,7 +62,8 @@ fn flag_parts() {
         let values = read(&with_flags(dependent << 12, 4)).unwrap().values;
         assert_eq!(u16::from(values.dependent()), dependent);
     }
-    assert_eq!(read(&with_flags(7 << 7, 4)), Err(Reason::LeValue.at(8)));
+    let reserved = Err(Reason::ReservedPduType.at(8));
+    assert_eq!(read(&with_flags(7 << 7, 4)), reserved);
 }
 
 #[test]
@@ -89,9 +90,11 @@ fn refusals_in_order() {
     let mut octets = with_flags(0xC380, 3);
     octets[0] = 255;
     assert_eq!(read(&octets[..9]), Err(Reason::ShortHeader.at(9)));
-    assert_eq!(read(&octets), Err(Reason::LeValue.at(0)));
+    assert_eq!(read(&octets), Err(Reason::RfChannel.at(0)));
     octets[0] = 0;
-    assert_eq!(read(&octets), Err(Reason::LeValue.at(8)));
+    assert_eq!(read(&octets), Err(Reason::ReservedPduType.at(8)));
+    octets[8] = 0;
+    assert_eq!(read(&octets), Err(Reason::ReservedPhy.at(8)));
     octets[8..10].fill(0);
     assert_eq!(read(&octets), Err(Reason::ShortPacket.at(10)));
     assert_eq!(read(&[]), Err(Reason::ShortHeader.at(0)));
@@ -113,14 +116,19 @@ fn written_is_read_back() {
 fn writer_refuses() {
     let mut output = [7; 13];
     let mut refused = |values, packet: &[u8]| write(&mut output, 99, &values, packet);
-    let value = Err(Reason::LeValue.at(0));
-    let channel = Values {
+    let all = Values {
         rf_channel: 40,
+        flags: 0xC380,
         ..SAMPLE
     };
-    assert_eq!(refused(channel, &[]), value);
-    for flags in [0x0380, 0xC000] {
-        assert_eq!(refused(Values { flags, ..SAMPLE }, &[]), value);
+    assert_eq!(refused(all, &[]), Err(Reason::RfChannel.at(0)));
+    for (flags, reason) in [
+        (0xC380, Reason::ReservedPduType),
+        (0x0380, Reason::ReservedPduType),
+        (0xC000, Reason::ReservedPhy),
+    ] {
+        let values = Values { flags, ..SAMPLE };
+        assert_eq!(refused(values, &[]), Err(reason.at(0)));
     }
     let short = Err(Reason::ShortPacket.at(0));
     assert_eq!(refused(SAMPLE, &[0; 3]), short);
