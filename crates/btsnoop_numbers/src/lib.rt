@@ -3,7 +3,6 @@ ghost use mathlib.Core.Path.{_≡_};
 ghost use Rattle.btsnoop_rules.specs.Record.{numbersAt};
 use btsnoop_rules::Numbers;
 use number_at::join32;
-use number_at::join64;
 
 // The original length.
 pub fn original(held: &[u8; 24]) -> u32
@@ -37,16 +36,10 @@ fn drops(held: &[u8; 24]) -> u32
 fn time(held: &[u8; 24]) -> i64
     ensures { λ r. ⌜ r ≡ numbersAt (now (held .entry)) 0 .time ⌝ }
 {
-    twos_complement::signed64(join64(
-        held[16],
-        held[17],
-        held[18],
-        held[19],
-        held[20],
-        held[21],
-        held[22],
-        held[23],
-    ))
+    twos_complement::signed64(
+        join32(held[16], held[17], held[18], held[19]),
+        join32(held[20], held[21], held[22], held[23]),
+    )
 }
 
 // All of them.

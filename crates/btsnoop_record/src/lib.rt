@@ -52,7 +52,10 @@ fn numbers(s: &[u8], place: usize) -> Numbers
         included: number_at::be32(s, place + 4),
         flags: number_at::be32(s, place + 8),
         drops: number_at::be32(s, place + 12),
-        time: twos_complement::signed64(number_at::be64(s, place + 16)),
+        time: twos_complement::signed64(
+            number_at::be32(s, place + 16),
+            number_at::be32(s, place + 20),
+        ),
     }
 }
 

@@ -1,10 +1,11 @@
--- Case laws of the record reader: one for each outcome.
+-- The numbers of a record, and case laws of the record reader: one for each outcome.
 -- Assumes nothing.
 use Prim.Native.Nat.{ℕ, _+_, _-_, _≤_, _<_}
 use mathlib.Core.Path.{_≡_}
 use mathlib.Core.Logic.{_⊎_, inl, inr}
 use mathlib.Core.List.{List}
 use lib.ListN.{length}
+use lib.IntN.{ℤ}
 use borrow.Author.Tests.{le-leb, ne-eqb}
 use native.Mathlib.Omega.{arith}
 use Rattle.refusals.specs.Refusals.{refused, given, shortRecord, includedLength, shortPacket, recordPlace}
@@ -14,6 +15,12 @@ use Rattle.btsnoop_rules.specs.Header.{headerLength}
 use Rattle.btsnoop_rules.specs.Record.{recordLength, numbersAt, end, whole, recordJudged, recordAt}
 use Rattle.btsnoop_rules.specs.Orders.{NumbersOrder}
 use Rattle.btsnoop_rules.proofs.Orders.{record-judged-exactly, record-read-exactly}
+
+-- numbers are the same where each of them is
+pub numbers-same : {o o′ i i′ f f′ d d′ : ℕ} {t t′ : ℤ} → o ≡ o′ → i ≡ i′ → f ≡ f′ → d ≡ d′ → t ≡ t′
+    → _≡_ {A = Numbers} (record { original = o; included = i; flags = f; drops = d; time = t })
+    (record { original = o′; included = i′; flags = f′; drops = d′; time = t′ })
+numbers-same a b c d e = cc
 
 module _ (s : List ℕ) (p : ℕ) where
   pub record-below : p < headerLength → recordAt s p ≡ refused recordPlace p

@@ -11,20 +11,15 @@ use mir.Syntax.{w64}
 use mir.Val.{SFits, toZ}
 use mir.Facts.{toZ-ofZ, toZ-pos}
 use Rattle.twos_complement.proofs.Signs.{fits-as, kept}
+use Rattle.twos_complement.proofs.Units.{sub-down, sub-under, units-up}
 use Rattle.capture_time.specs.Time.{unixEpoch, perSecond, lastMicrosecond, fieldOf, unwritable}
-use Rattle.capture_time.proofs.Signed.{sub-down, sub-under, held}
+use Rattle.capture_time.proofs.Signed.{held}
 use Rattle.capture_time.proofs.Laws.{negative-seconds, field-negative, difference-fits, writable}
 
 -- u microseconds after −(n + 1) seconds
 pub up-from : (n u : ℕ) → u < perSecond
     → negsuc n *ℤ pos perSecond +ℤ pos u ≡ negsuc (n * perSecond + (lastMicrosecond - u))
-up-from n u h =
-    ap (λ (z : ℤ). z +ℤ pos u) (negative-seconds n)
-    ∙ sub-under u (suc (n * perSecond + lastMicrosecond)) (omega arith)
-    ∙ ap negsuc e
-  where
-    e : suc (n * perSecond + lastMicrosecond) - suc u ≡ n * perSecond + (lastMicrosecond - u)
-    e = omega arith
+up-from n u h = units-up lastMicrosecond n u h
 
 -- C is e seconds
 module _ (e u : ℕ) (h : u < perSecond) (c : e * perSecond ≡ unixEpoch) where

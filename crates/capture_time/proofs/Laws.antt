@@ -6,14 +6,14 @@ use native.Mathlib.Omega.{arith}
 use borrow.Author.Tests.{ltb-true, ltb-false, lt-ltb, le-ltb}
 use lib.Arith.{lt-of-le-ne}
 use lib.Dec.{ltb}
-use lib.IntN.{ℤ, pos, negsuc, negℤ, subℕ, _+ℤ_, _*ℤ_, +ℤ-assoc}
+use lib.IntN.{ℤ, pos, negsuc, subℕ, _+ℤ_, _*ℤ_, +ℤ-assoc}
 use lib.Signed.{ltZ}
 use mir.Syntax.{w64}
 use mir.Val.{SFits, ofZ}
 use Rattle.twos_complement.proofs.Signs.{fits-as}
+use Rattle.twos_complement.proofs.Units.{sub-down, sub-under, negative-units}
 use Rattle.refusals.specs.Refusals.{refused, given}
 use Rattle.capture_time.specs.Time.{inexpressible, unixEpoch, perSecond, lastMicrosecond, signedLimit, unixMicroseconds, timeOf, belowRange, aboveRange, leavesRange, reading, fieldOf, unwritable, writing}
-use Rattle.capture_time.proofs.Signed.{sub-down, sub-under}
 
 -- ---- a difference and the range
 
@@ -98,10 +98,7 @@ module _ (k : ℕ) (field : ℤ) where
 
 -- −(n + 1) seconds, as microseconds
 pub negative-seconds : (n : ℕ) → negsuc n *ℤ pos perSecond ≡ negsuc (n * perSecond + lastMicrosecond)
-negative-seconds n = ap (λ (x : ℕ). negℤ (pos x)) e
-  where
-    e : suc n * perSecond ≡ suc (n * perSecond + lastMicrosecond)
-    e = omega arith
+negative-seconds n = negative-units lastMicrosecond n
 
 -- the field of −(n + 1) seconds: what is to be taken from C and the microseconds
 pub field-negative : (n u : ℕ) → fieldOf (negsuc n) u ≡ subℕ (unixEpoch + u) (suc n * perSecond)

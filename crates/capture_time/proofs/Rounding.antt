@@ -11,8 +11,9 @@ use mir.Val.{Fits, SFits}
 use mir.Facts.{toZ-ofZ}
 use mir.ValLaws.{sfits-le}
 use Rattle.twos_complement.proofs.Signs.{kept}
+use Rattle.twos_complement.proofs.Units.{sub-down}
 use Rattle.capture_time.specs.Time.{perSecond, lastMicrosecond, secondsOf, microsecondsOf}
-use Rattle.capture_time.proofs.Signed.{sub-down, held}
+use Rattle.capture_time.proofs.Signed.{held}
 
 -- a quotient that is a second too late, with a remainder below zero
 pub record RoundedUp (q r d : ℤ) : Type 0 where

@@ -1,19 +1,12 @@
--- A difference of two numbers, and signed numbers of 64 bits as the code holds them.
-use Prim.Native.Nat.{ℕ, suc, _-_, _<_, _≤_}
+-- Signed numbers of 64 bits as the code holds them.
+use Prim.Native.Nat.{ℕ}
 use mathlib.Core.Path.{_≡_, ap, sym, _∙_}
-use mathlib.Core.Bool.{Bool, cond}
-use borrow.Author.Tests.{lt-ltb, le-ltb}
-use lib.IntN.{ℤ, pos, negsuc, subℕ}
+use mathlib.Core.Bool.{Bool}
+use lib.IntN.{ℤ, pos}
 use lib.Signed.{ltZ}
 use mir.Syntax.{w64}
 use mir.Val.{SFits, toZ, ofZ}
 use mir.Facts.{toZ-ofZ}
-
-pub sub-down : (a b : ℕ) → b ≤ a → subℕ a b ≡ pos (a - b)
-sub-down a b h = ap (λ (t : Bool). cond t (negsuc (b - suc a)) (pos (a - b))) (le-ltb a b h)
-
-pub sub-under : (a b : ℕ) → a < b → subℕ a b ≡ negsuc (b - suc a)
-sub-under a b h = ap (λ (t : Bool). cond t (negsuc (b - suc a)) (pos (a - b))) (lt-ltb a b h)
 
 -- a number as the code holds it: written to its bits and read back
 abbrev pub held : ℤ → ℤ

@@ -93,8 +93,8 @@ pub fn join32(a: u8, b: u8, c: u8, d: u8) -> u32
     (((a as u32) * 256 + b as u32) * 256 + c as u32) * 256 + d as u32
 }
 
-// The number of eight octets, the most significant first, likewise.
-pub fn join64(a: u8, b: u8, c: u8, d: u8, e: u8, f: u8, g: u8, h: u8) -> u64
+// The number of eight octets, the most significant first.
+fn join64(a: u8, b: u8, c: u8, d: u8, e: u8, f: u8, g: u8, h: u8) -> u64
     ensures { λ r. ⌜ r ≡ number big (a ∷ b ∷ c ∷ d ∷ e ∷ f ∷ g ∷ h ∷ []) ⌝ }
 {
     let high = (((a as u64) * 256 + b as u64) * 256 + c as u64) * 256 + d as u64;

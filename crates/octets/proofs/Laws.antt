@@ -2,12 +2,12 @@
 -- Assumes nothing.
 use Prim.Native.Nat.{ℕ, zero, suc, _+_, _*_, _/_, _%_, _^_, _<_}
 use mathlib.Core.Path.{_≡_, refl, sym, ap, _∙_}
-use mathlib.Core.List.{List, [], _∷_, _++_, reverseAux, reverse-reverse}
+use mathlib.Core.List.{List, [], _∷_, _++_, reverse, reverseAux, reverse-reverse, reverse-append}
 use native.Mathlib.Omega.{arith}
 use native.Mathlib.Nat.{pow-succ'}
 use lib.ListN.{length, getD, take, drop, length-reverse}
 use Rattle.octets.specs.Numbers.{Order, little, big, fromLittle, toLittle, ordered, number, octetsOf, octetsAfter, Octets}
-use Rattle.octets.specs.Claims.{ReadAfterWrite, WriteAfterRead, Range, Written}
+use Rattle.octets.specs.Claims.{ReadAfterWrite, WriteAfterRead, Range, Written, NumberJoined}
 
 -- what a lent slice tells of each index makes its list octets
 pub all-octets : (s : List ℕ) → ((i : ℕ) → getD s i 0 < 256) → Octets s
@@ -45,6 +45,16 @@ octet-at (x ∷ s) (suc i) h = octet-at s i (h .1)
 pub octets-after : (s : List ℕ) (at after n : ℕ) → Octets s → Octets (octetsAfter s at after n)
 octets-after s at after zero h = tt
 octets-after s at after (suc n) h = (octet-at s (at + after) h, octets-after s at (suc after) n h)
+
+-- octets from a place further on are those so many octets after the first
+pub octets-further : (s : List ℕ) (at further after n : ℕ)
+    → octetsAfter s (at + further) after n ≡ octetsAfter s at (further + after) n
+octets-further s at further after zero = refl
+octets-further s at further after (suc n) =
+    let same : at + further + after ≡ at + (further + after) = omega arith in
+    let next : further + suc after ≡ suc (further + after) = omega arith in
+    cons (ap (λ (i : ℕ). getD s i 0) same)
+    (octets-further s at further (suc after) n ∙ ap (λ (i : ℕ). octetsAfter s at i n) next)
 
 octets-reverseAux : (s r : List ℕ) → Octets s → Octets r → Octets (reverseAux s r)
 octets-reverseAux [] r h k = k
@@ -114,3 +124,18 @@ written o w n =
       long = length-ordered o (toLittle w n) ∙ length-to w n;
       octets = octets-ordered o (toLittle w n) (octets-to w n);
     }
+
+-- low octets stand before high ones
+joined-little : (high low : List ℕ) → fromLittle (low ++ high) ≡ fromLittle high * 256 ^ length low + fromLittle low
+joined-little high [] = omega arith
+joined-little high (x ∷ low) =
+    let up : fromLittle high * 256 ^ suc (length low) ≡ 256 * (fromLittle high * 256 ^ length low) = rw (pow-succ' 256 (length low)) (omega arith) in
+    omega (arith, joined-little high low, up)
+
+pub number-joined : NumberJoined
+unfolding number
+number-joined little high low = joined-little high low
+number-joined big high low =
+    ap fromLittle (reverse-append high low)
+    ∙ joined-little (reverse high) (reverse low)
+    ∙ ap (λ (k : ℕ). fromLittle (reverse high) * 256 ^ k + fromLittle (reverse low)) (length-reverse low)

@@ -1,15 +1,18 @@
--- Two's complement at any number of bits: the bits come back, and so does the number.
-use Prim.Native.Nat.{ℕ, suc, _-_, _*_, _^_, _<_, _≤_}
-use mathlib.Core.Path.{_≡_, refl, ap}
+-- Two's complement at any number of bits: the bits come back, and so does the number. At 64 bits by its halves.
+use Prim.Native.Nat.{ℕ, suc, _+_, _-_, _*_, _^_, _<_, _≤_}
+use mathlib.Core.Path.{_≡_, refl, sym, ap, _∙_}
 use mathlib.Core.Bool.{Bool, true, false, cond}
+use mathlib.Core.List.{List}
 use native.Mathlib.Omega.{arith}
 use lib.IntN.{ℤ, pos, negsuc}
 use lib.Signed.{mag}
 use lib.Dec.{ltb}
 use native.Mathlib.Nat.{pow-succ'}
 use borrow.Author.Tests.{lt-ltb, le-ltb, ltb-true, ltb-false}
-use Rattle.octets.specs.Signed.{signed, unsigned}
-use Rattle.octets.specs.Claims.{TwosComplementAt, TwosComplement}
+use Rattle.octets.specs.Numbers.{big, number, octetsAfter, octetsAt, numberAt}
+use Rattle.octets.specs.Signed.{signed, unsigned, fromHalves}
+use Rattle.octets.specs.Claims.{SignedByHalves, TwosComplementAt, TwosComplement}
+use Rattle.octets.proofs.Laws.{octets-further, number-joined}
 
 module _ (b : ℕ) where
   half : 2 ^ (suc b - 1) ≡ 2 ^ b
@@ -51,3 +54,20 @@ module _ (b : ℕ) where
 
 pub twos-complement : TwosComplement
 twos-complement = twos-complement-at
+
+-- ---- a number by its halves
+
+pub signed-by-halves : SignedByHalves
+unfolding fromHalves
+signed-by-halves o high low _ four =
+    ap (λ (k : ℕ). signed 64 (number o high * 256 ^ k + number o low)) (sym four)
+    ∙ ap (signed 64) (sym (number-joined o high low))
+
+-- the same for halves that stand at a place and behind it
+pub halves-at : (s : List ℕ) (p q : ℕ) → p + 4 ≡ q
+    → fromHalves (numberAt big 4 s p) (numberAt big 4 s q) ≡ signed 64 (numberAt big 8 s p)
+unfolding numberAt
+halves-at s p q at =
+    ap (λ (low : List ℕ). fromHalves (number big (octetsAt s p 4)) (number big low))
+    (ap (λ (k : ℕ). octetsAt s k 4) (sym at) ∙ octets-further s p 4 0 4)
+    ∙ signed-by-halves big (octetsAt s p 4) (octetsAfter s p 4 4) refl refl

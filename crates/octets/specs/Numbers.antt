@@ -1,6 +1,6 @@
 -- Numbers in octets, in either order and at any width.
 use Prim.Native.Nat.{ℕ, zero, suc, _+_, _*_, _/_, _%_, _<_}
-use mathlib.Core.List.{List, [], _∷_, reverse}
+use mathlib.Core.List.{List, [], _∷_, _++_, reverse}
 use lib.ListN.{getD}
 
 -- the order of a number's octets: the least significant first, or the most significant first
@@ -26,6 +26,11 @@ ordered big xs = reverse xs
 -- the number that octets make in an order
 unfoldable pub number : Order → List ℕ → ℕ
 number o xs = fromLittle (ordered o xs)
+
+-- high octets and low octets of one number, joined in an order
+abbrev pub joined : Order → (high low : List ℕ) → List ℕ
+joined little high low = low ++ high
+joined big high low = high ++ low
 
 -- the octets of a number in an order, at a width in octets
 unfoldable pub octetsOf : Order → ℕ → ℕ → List ℕ

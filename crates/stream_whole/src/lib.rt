@@ -11,7 +11,6 @@ ghost use Rattle.stream_state.specs.Rows.{TakenAs};
 use btsnoop_rules::Numbers;
 use btsnoop_rules::RECORD_LENGTH;
 use number_at::be32;
-use number_at::be64;
 use stream_state::IN_RECORD;
 use stream_state::Taken;
 
@@ -96,6 +95,6 @@ fn numbers(s: &[u8]) -> Numbers
         included: included(s),
         flags: be32(s, 8),
         drops: be32(s, 12),
-        time: twos_complement::signed64(be64(s, 16)),
+        time: twos_complement::signed64(be32(s, 16), be32(s, 20)),
     }
 }

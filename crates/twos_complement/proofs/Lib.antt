@@ -1,2 +1,4 @@
 -- What the proofs of several functions use, here and above.
 pub mod Signs
+pub mod Units
+pub mod Halves

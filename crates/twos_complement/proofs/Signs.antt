@@ -1,9 +1,9 @@
 -- Signed numbers as the code holds them, once over the width: written to bits by `ofZ`, and read back by `toZ`.
-use Prim.Native.Nat.{ℕ, suc, _-_, _^_, _<_}
+use Prim.Native.Nat.{ℕ, suc, _-_, _^_, _<_, _≤_}
 use mathlib.Core.Path.{_≡_, refl, sym, ap, subst, _∙_}
 use mathlib.Core.Bool.{Bool, true, false, cond}
 use native.Mathlib.Omega.{arith}
-use borrow.Author.Tests.{ltb-true}
+use borrow.Author.Tests.{lt-ltb, le-ltb, ltb-true}
 use lib.Dec.{T, ltb}
 use lib.IntN.{ℤ, pos, negsuc, natAbs}
 use lib.Signed.{ltZ, nonNeg}
@@ -39,6 +39,15 @@ toZ-signed w16 n = sel-cond (ltb n (2 ^ 15)) (pos n) (negsuc (2 ^ 16 - suc n))
 toZ-signed w32 n = sel-cond (ltb n (2 ^ 31)) (pos n) (negsuc (2 ^ 32 - suc n))
 toZ-signed w64 n = sel-cond (ltb n (2 ^ 63)) (pos n) (negsuc (2 ^ 64 - suc n))
 toZ-signed w128 n = sel-cond (ltb n (2 ^ 127)) (pos n) (negsuc (2 ^ 128 - suc n))
+
+-- the signed number of bits below half the range, and from there on
+pub signed-below : (b n : ℕ) → n < 2 ^ (b - 1) → signed b n ≡ pos n
+unfolding signed
+signed-below b n h = ap (λ (t : Bool). cond t (pos n) (negsuc (2 ^ b - suc n))) (lt-ltb n (2 ^ (b - 1)) h)
+
+pub signed-above : (b n : ℕ) → 2 ^ (b - 1) ≤ n → signed b n ≡ negsuc (2 ^ b - suc n)
+unfolding signed
+signed-above b n h = ap (λ (t : Bool). cond t (pos n) (negsuc (2 ^ b - suc n))) (le-ltb n (2 ^ (b - 1)) h)
 
 -- ---- a number by its sign, as the code finds it
 

@@ -3,6 +3,7 @@ ghost use mathlib.Core.Path.{_≡_};
 ghost use Rattle.vectors.specs.Questions.{isAmong};
 use crate::question_lines;
 use crate::question_lines::low32;
+use crate::question_lines::signed;
 use boundary_write::Written;
 
 // Writes the answer behind its number; tells whether the question is one of these.
@@ -29,16 +30,13 @@ fn write(op: u8, q: &[u8], first: &[u8], second: &[u8]) {
 }
 
 fn read_time(field: u64) {
-    let r = zalghimo::zalghimo_btsnoop_read_time(twos_complement::signed64(field));
+    let r = zalghimo::zalghimo_btsnoop_read_time(signed(field));
     let seconds = twos_complement::unsigned64(r.seconds);
     question_lines::numbers(&[r.kind, r.number, r.place, seconds, r.microseconds]);
 }
 
 fn write_time(seconds: u64, microseconds: u64) {
-    let r = zalghimo::zalghimo_btsnoop_write_time(
-        twos_complement::signed64(seconds),
-        low32(microseconds),
-    );
+    let r = zalghimo::zalghimo_btsnoop_write_time(signed(seconds), low32(microseconds));
     let field = twos_complement::unsigned64(r.field);
     question_lines::numbers(&[r.kind, r.number, r.place, field]);
 }
@@ -72,7 +70,7 @@ fn write_record_into(q: &[u8], out: &mut [u8], packet: &[u8]) {
         low32(number_at::be64(q, 9)),
         low32(number_at::be64(q, 17)),
         low32(number_at::be64(q, 25)),
-        twos_complement::signed64(number_at::be64(q, 33)),
+        signed(number_at::be64(q, 33)),
         packet,
     );
     written(r, out);

@@ -4,6 +4,7 @@ ghost use mathlib.Core.Path.{_≡_};
 ghost use Prim.Native.Nat.{_%_, _^_, min};
 ghost use lib.ListN.{length};
 ghost use Rattle.io.specs.Counts.{Counts};
+ghost use Rattle.octets.specs.Signed.{signed as signedOf};
 ghost use Rattle.vectors.specs.Questions.{questionLength, isAmong, roomOf};
 use libc::STDOUT_FILENO;
 
@@ -89,6 +90,13 @@ pub fn low32(n: u64) -> u32
     ensures { λ r. ⌜ r ≡ n % 2 ^ 32 ⌝ }
 {
     (n % 4294967296) as u32
+}
+
+// A signed parameter, from its halves.
+pub fn signed(n: u64) -> i64
+    ensures { λ r. ⌜ r ≡ signedOf 64 n ⌝ }
+{
+    twos_complement::signed64((n / 4294967296) as u32, low32(n))
 }
 
 // Room for an output, with the octets at its start that stand there before the writing.

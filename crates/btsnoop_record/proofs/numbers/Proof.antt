@@ -1,13 +1,15 @@
 -- `btsnoop_record::numbers` meets its contract: each number by the promise of its reader.
 -- Assumes nothing.
-use Prim.Native.Nat.{ℕ}
-use mathlib.Core.Path.{_≡_, ap, _∙_}
-use lib.IntN.{ℤ}
+use Prim.Native.Nat.{_+_}
+use mathlib.Core.Path.{ap₂, _∙_}
+use native.Mathlib.Omega.{arith}
+use denote.Ref.{now}
 use mir.Syntax.{w64}
 use mir.Facts.{toZ-ofZ}
-use Rattle.octets.specs.Signed.{signed}
-use Rattle.btsnoop_rules.specs.declared.Numbers.{Numbers}
+use Rattle.octets.specs.Signed.{fromHalves}
+use Rattle.octets.proofs.Signs.{halves-at}
 use Rattle.btsnoop_rules.specs.Record.{numbersAt}
+use Rattle.btsnoop_rules.proofs.RecordLaws.{numbers-same}
 use borrow.Author.Needs.{needs}
 use Rattle.btsnoop_record.proofs.numbers.Statement.{statement}
 use Rattle.btsnoop_record.proofs.numbers.Tie as tie
@@ -33,28 +35,30 @@ add-be32-3 c = search needs
 be32-requires-4 : tie.Need-be32-requires-4
 be32-requires-4 c κs = search needs
 
-add-be64 : tie.Need-add-be64
-add-be64 c = search needs
+add-be32-4 : tie.Need-add-be32-4
+add-be32-4 c = search needs
 
-be64-requires : tie.Need-be64-requires
-be64-requires c κs = search needs
+be32-requires-5 : tie.Need-be32-requires-5
+be32-requires-5 c κs = search needs
+
+add-be32-5 : tie.Need-add-be32-5
+add-be32-5 c = search needs
+
+be32-requires-6 : tie.Need-be32-requires-6
+be32-requires-6 c κs = search needs
 
 signed64-requires : tie.Need-signed64-requires
 signed64-requires c κs = search needs
-
--- numbers are the same where each of them is
-same : {o o′ i i′ f f′ d d′ : ℕ} {t t′ : ℤ} → o ≡ o′ → i ≡ i′ → f ≡ f′ → d ≡ d′ → t ≡ t′
-    → _≡_ {A = Numbers} (record { original = o; included = i; flags = f; drops = d; time = t })
-    (record { original = o′; included = i′; flags = f′; drops = d′; time = t′ })
-same a b c d e = cc
 
 returns : tie.Need-returns
 unfolding numbersAt
 returns c =
     let bits = toZ-ofZ {w = w64} {z = c .signed64 .result} (record { sfits = c .signed64 .ok }) in
-    same (c .before .before .before .before .before .be32 .ensures) (c .before .before .before .before .be322 .ensures)
-    (c .before .before .before .be323 .ensures) (c .before .before .be324 .ensures)
-    (bits ∙ c .signed64 .ensures ∙ ap (signed 64) (c .before .be64 .ensures))
+    let a = c .before .before .before .before .before .before .before .before .args in
+    let halves = ap₂ fromHalves (c .before .before .be325 .ensures) (c .before .be326 .ensures) in
+    numbers-same (c .before .before .before .before .before .before .be32 .ensures) (c .before .before .before .before .before .be322 .ensures)
+    (c .before .before .before .before .be323 .ensures) (c .before .before .before .be324 .ensures)
+    (bits ∙ c .signed64 .ensures ∙ halves ∙ halves-at (now (a .s)) (a .place + 16) (a .place + 20) (omega arith))
 
 pub numbers-spec : {M : Type 1} → statement M
 numbers-spec =
@@ -67,7 +71,9 @@ numbers-spec =
     be32-requires-3
     add-be32-3
     be32-requires-4
-    add-be64
-    be64-requires
+    add-be32-4
+    be32-requires-5
+    add-be32-5
+    be32-requires-6
     signed64-requires
     returns)

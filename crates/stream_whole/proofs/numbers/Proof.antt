@@ -1,13 +1,13 @@
 -- `stream_whole::numbers` meets its contract: each number by the promise of its reader.
 -- Assumes nothing.
-use Prim.Native.Nat.{ℕ}
-use mathlib.Core.Path.{_≡_, ap, _∙_}
-use lib.IntN.{ℤ}
+use mathlib.Core.Path.{refl, ap₂, _∙_}
+use denote.Ref.{now}
 use mir.Syntax.{w64}
 use mir.Facts.{toZ-ofZ}
-use Rattle.octets.specs.Signed.{signed}
-use Rattle.btsnoop_rules.specs.declared.Numbers.{Numbers}
+use Rattle.octets.specs.Signed.{fromHalves}
+use Rattle.octets.proofs.Signs.{halves-at}
 use Rattle.btsnoop_rules.specs.Record.{numbersAt}
+use Rattle.btsnoop_rules.proofs.RecordLaws.{numbers-same}
 use borrow.Author.Needs.{needs}
 use Rattle.stream_whole.proofs.numbers.Statement.{statement}
 use Rattle.stream_whole.proofs.numbers.Tie as tie
@@ -24,25 +24,23 @@ be32-requires c κs = search needs
 be32-requires-2 : tie.Need-be32-requires-2
 be32-requires-2 c κs = search needs
 
-be64-requires : tie.Need-be64-requires
-be64-requires c κs = search needs
+be32-requires-3 : tie.Need-be32-requires-3
+be32-requires-3 c κs = search needs
+
+be32-requires-4 : tie.Need-be32-requires-4
+be32-requires-4 c κs = search needs
 
 signed64-requires : tie.Need-signed64-requires
 signed64-requires c κs = search needs
-
--- numbers are the same where each of them is
-same : {o o′ i i′ f f′ d d′ : ℕ} {t t′ : ℤ} → o ≡ o′ → i ≡ i′ → f ≡ f′ → d ≡ d′ → t ≡ t′
-    → _≡_ {A = Numbers} (record { original = o; included = i; flags = f; drops = d; time = t })
-    (record { original = o′; included = i′; flags = f′; drops = d′; time = t′ })
-same a b c d e = cc
 
 returns : tie.Need-returns
 unfolding numbersAt
 returns c =
     let bits = toZ-ofZ {w = w64} {z = c .signed64 .result} (record { sfits = c .signed64 .ok }) in
-    same (c .before .before .before .before .before .original .ensures) (c .before .before .before .before .included .ensures)
-    (c .before .before .before .be32 .ensures) (c .before .before .be322 .ensures)
-    (bits ∙ c .signed64 .ensures ∙ ap (signed 64) (c .before .be64 .ensures))
+    let halves = ap₂ fromHalves (c .before .before .be323 .ensures) (c .before .be324 .ensures) in
+    numbers-same (c .before .before .before .before .before .before .original .ensures) (c .before .before .before .before .before .included .ensures)
+    (c .before .before .before .before .be32 .ensures) (c .before .before .before .be322 .ensures)
+    (bits ∙ c .signed64 .ensures ∙ halves ∙ halves-at (now (c .before .before .before .before .before .before .before .before .args .s)) 16 20 refl)
 
 pub numbers-spec : {M : Type 1} → statement M
 numbers-spec =
@@ -52,6 +50,7 @@ numbers-spec =
     included-requires
     be32-requires
     be32-requires-2
-    be64-requires
+    be32-requires-3
+    be32-requires-4
     signed64-requires
     returns)
