@@ -1,17 +1,14 @@
 -- The C boundary of BTSnoop's readers: the struct that each answer is returned as, field by field. Kind 0 is a refusal,
 -- 1 values, 2 the end, 3 "more"; a field that the kind has no value for is 0.
 use Prim.Native.Nat.{ℕ}
-use lib.IntN.{pos}
 use Rattle.refusals.specs.Refusals.{Answer, refused, given}
 use Rattle.tiling.specs.Tiling.{Ending, ended, more, broken}
 use Rattle.tiling.specs.Tiling.{Survey as Surveyed}
-use Rattle.btsnoop_rules.specs.Record.{Found, end, whole}
 use Rattle.btsnoop_rules.specs.File.{File as AcceptedFile}
 use Rattle.btsnoop_earlier.specs.Earlier.{refusedIn, bothEnd, packetOf}
 use Rattle.btsnoop_earlier.specs.Earlier.{Earlier as EarlierOf}
 use Rattle.boundary_btsnoop.specs.declared.Header.{Header}
 use Rattle.boundary_btsnoop.specs.declared.File.{File}
-use Rattle.boundary_btsnoop.specs.declared.Record.{Record}
 use Rattle.boundary_btsnoop.specs.declared.Survey.{Survey}
 use Rattle.boundary_btsnoop.specs.declared.Earlier.{Earlier}
 
@@ -24,26 +21,6 @@ headerRow (given code) = record { kind = 1; number = 0; place = 0; datalink = co
 abbrev pub fileRow : Answer AcceptedFile → File
 fileRow (refused n q) = record { kind = 0; number = n; place = q; datalink = 0; records = 0 }
 fileRow (given f) = record { kind = 1; number = 0; place = 0; datalink = f .datalink; records = f .records }
-
--- zalghimo_record
-abbrev pub recordRow : Answer Found → Record
-recordRow (refused n q) =
-    record { kind = 0; number = n; place = q; original = 0; included = 0; flags = 0; drops = 0; time = pos 0; packet = 0; next = 0 }
-recordRow (given end) =
-    record { kind = 2; number = 0; place = 0; original = 0; included = 0; flags = 0; drops = 0; time = pos 0; packet = 0; next = 0 }
-recordRow (given (whole m packet next)) =
-    record {
-      kind = 1;
-      number = 0;
-      place = 0;
-      original = m .original;
-      included = m .included;
-      flags = m .flags;
-      drops = m .drops;
-      time = m .time;
-      packet = packet;
-      next = next;
-    }
 
 -- zalghimo_survey: a refusal adds its count
 abbrev pub surveyRowOf : ℕ → Ending → Survey

@@ -1,15 +1,13 @@
-// The structs of the C boundary for BTSnoop's readers, and each answer as one of them. Kind 0 is a refusal, 1 values, 2
-// the end, 3 "more".
+// The structs of the C boundary for BTSnoop's readers, and each answer as one of them; a record's is in `boundary_record`.
+// Kind 0 is a refusal, 1 values, 2 the end, 3 "more".
 ghost use mathlib.Core.Path.{_≡_};
 ghost use Rattle.btsnoop_header.specs.Says.{headerSays};
-ghost use Rattle.btsnoop_record.specs.Says.{recordSays};
 ghost use Rattle.btsnoop_survey.specs.Says.{surveySays, fileSays};
 ghost use Rattle.btsnoop_earlier.specs.Says.{captureSays, earlierSays};
-ghost use Rattle.boundary_btsnoop.specs.Rows.{headerRow, fileRow, recordRow, surveyRow, earlierRow};
+ghost use Rattle.boundary_btsnoop.specs.Rows.{headerRow, fileRow, surveyRow, earlierRow};
 use btsnoop_earlier::Capture;
 use btsnoop_earlier::EarlierAnswer;
 use btsnoop_header::HeaderAnswer;
-use btsnoop_record::RecordAnswer;
 use btsnoop_survey::FileAnswer;
 use btsnoop_survey::SurveyAnswer;
 
@@ -30,21 +28,6 @@ pub struct File {
     pub place: u64,
     pub datalink: u64,
     pub records: u64,
-}
-
-// zalghimo_record
-#[repr(C)]
-pub struct Record {
-    pub kind: u64,
-    pub number: u64,
-    pub place: u64,
-    pub original: u64,
-    pub included: u64,
-    pub flags: u64,
-    pub drops: u64,
-    pub time: i64,
-    pub packet: u64,
-    pub next: u64,
 }
 
 // zalghimo_survey
@@ -104,53 +87,6 @@ pub fn file_row(answer: FileAnswer) -> File
             place: 0,
             datalink: datalink as u64,
             records: records as u64,
-        },
-    }
-}
-
-pub fn record_row(answer: RecordAnswer) -> Record
-    ensures { λ r. ⌜ r ≡ recordRow (recordSays answer) ⌝ }
-{
-    match answer {
-        RecordAnswer::Refused(refusal) => Record {
-            kind: 0,
-            number: refusal.number as u64,
-            place: refusal.place as u64,
-            original: 0,
-            included: 0,
-            flags: 0,
-            drops: 0,
-            time: 0,
-            packet: 0,
-            next: 0,
-        },
-        RecordAnswer::End => Record {
-            kind: 2,
-            number: 0,
-            place: 0,
-            original: 0,
-            included: 0,
-            flags: 0,
-            drops: 0,
-            time: 0,
-            packet: 0,
-            next: 0,
-        },
-        RecordAnswer::Whole {
-            numbers,
-            packet,
-            next,
-        } => Record {
-            kind: 1,
-            number: 0,
-            place: 0,
-            original: numbers.original as u64,
-            included: numbers.included as u64,
-            flags: numbers.flags as u64,
-            drops: numbers.drops as u64,
-            time: numbers.time,
-            packet: packet as u64,
-            next: next as u64,
         },
     }
 }

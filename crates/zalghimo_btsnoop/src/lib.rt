@@ -4,12 +4,13 @@ ghost use Rattle.btsnoop_rules.specs.Header.{headerAt};
 ghost use Rattle.btsnoop_rules.specs.Record.{recordAt};
 ghost use Rattle.btsnoop_rules.specs.File.{surveyAt, fileAt};
 ghost use Rattle.btsnoop_earlier.specs.Earlier.{earlierOf};
-ghost use Rattle.boundary_btsnoop.specs.Rows.{headerRow, fileRow, recordRow, surveyRow, earlierRow};
+ghost use Rattle.boundary_btsnoop.specs.Rows.{headerRow, fileRow, surveyRow, earlierRow};
+ghost use Rattle.boundary_record.specs.Rows.{recordRow};
 use boundary_btsnoop::Earlier;
 use boundary_btsnoop::File;
 use boundary_btsnoop::Header;
-use boundary_btsnoop::Record;
 use boundary_btsnoop::Survey;
+use boundary_record::Record;
 
 // Reads the file header of a BTSnoop file.
 pub fn header(input: &[u8]) -> Header
@@ -29,7 +30,7 @@ pub fn check(input: &[u8]) -> File
 pub fn record(input: &[u8], place: usize) -> Record
     ensures { λ r. ⌜ r ≡ recordRow (recordAt (now (input .entry)) place) ⌝ }
 {
-    boundary_btsnoop::record_row(btsnoop_record::read(input, place))
+    boundary_record::read(input, place)
 }
 
 // Surveys the records from a place on, passing at most a number of them.

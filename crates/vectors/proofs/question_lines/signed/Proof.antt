@@ -5,8 +5,7 @@ use mathlib.Core.Path.{_≡_, ap, _∙_}
 use native.Mathlib.Omega.{arith}
 use mir.Syntax.{w64}
 use mir.Facts.{toZ-ofZ}
-use Rattle.octets.specs.Signed.{fromHalves}
-use Rattle.octets.specs.Signed.{signed as signedOf}
+use Rattle.octets.specs.Signed.{fromHalves, signed as signedOf}
 use borrow.Author.Needs.{needs}
 use Rattle.vectors.proofs.question_lines.signed.Statement.{statement}
 use Rattle.vectors.proofs.question_lines.signed.Tie as tie
