@@ -1,4 +1,4 @@
-//! Captures by size: check, survey, reading record by record, writing.
+//! Captures by size: check, survey, reading record by record, writing. The time alone of many records.
 
 use super::{row, Row};
 use crate::agree;
@@ -12,6 +12,9 @@ use std::hint::black_box;
 
 /// Sizes of the captures.
 const SIZES: [usize; 6] = [1 << 10, 1 << 14, 1 << 18, 1 << 22, 1 << 26, 1 << 28];
+
+/// Records, with empty packets, of the capture of which only the times are read.
+pub const TIMES: usize = 1_000_000;
 
 /// Records that a survey passes at most.
 pub const INSTALMENT: usize = 1000;
@@ -65,6 +68,29 @@ fn plain_records(input: &[u8]) -> u64 {
         let length = entry.packet.len();
         let packet = (record.next - length) ^ length;
         fold = fold.wrapping_add(u64::from(lengths) ^ entry.time as u64 ^ packet as u64);
+        place = record.next;
+    }
+    fold
+}
+
+/// Reads the time of each record, and folds the times into one number.
+fn ours_times(input: &[u8]) -> u64 {
+    let (mut place, mut fold) = (16, 0u64);
+    loop {
+        let record = library::record(input, place);
+        if record.kind != library::VALUES {
+            return fold;
+        }
+        fold = fold.wrapping_add(record.time as u64);
+        place = record.next as usize;
+    }
+}
+
+/// The same by plain Rust.
+fn plain_times(input: &[u8]) -> u64 {
+    let (mut place, mut fold) = (16, 0u64);
+    while let Ok(Some(record)) = btsnoop::record(input, place) {
+        fold = fold.wrapping_add(record.entry.time as u64);
         place = record.next;
     }
     fold
@@ -128,7 +154,20 @@ fn capture(size: usize) -> [Row; 4] {
     ]
 }
 
-/// Captures of every size.
+/// The times of many records.
+fn times() -> Row {
+    let input = &made::even_capture(&mut Prng::new(1), TIMES, 0);
+    assert_eq!(library::check(input).records, TIMES as u64);
+    assert_eq!(ours_times(input), plain_times(input));
+    let works = [
+        reading(|| ours_times(black_box(input))),
+        reading(|| plain_times(black_box(input))),
+    ];
+    row("time", Some(input.len()), TIMES, best(TIMES, works))
+}
+
+/// Captures of every size, and the times.
 pub fn all() -> Vec<Row> {
-    SIZES.into_iter().flat_map(capture).collect()
+    let captures = SIZES.into_iter().flat_map(capture);
+    captures.chain([times()]).collect()
 }

@@ -2,7 +2,7 @@
 
 use super::{machine, PLOT};
 use crate::agree::ALL_DAMAGED;
-use crate::measure::captures::INSTALMENT;
+use crate::measure::captures::{INSTALMENT, TIMES};
 use crate::timing::{RUNS, SHORTEST};
 
 /// The page in Markdown.
@@ -17,7 +17,8 @@ other. The library is called through its C boundary and is not inlined; plain Ru
 the call puts them.
 
 - *check*: a whole file. *survey*: a whole file by instalments of {INSTALMENT} records. *read*: record by record, all
-  values used. *write*: a whole file from a list of records. Packets have 0 to 255 octets.
+  values used. *write*: a whole file from a list of records. Packets have 0 to 255 octets. *time*: record by record, the
+  time alone used, {TIMES} records with empty packets.
 - Streams: a capture of packets of one length, about 1 MiB, in chunks of one size, all that is told used. A rate is of
   all octets of the stream; packet octets are handed out as parts of the chunk, and neither reads them.
 - *read* and *fields* of radiotap: a header judged whole, and the list of its fields besides. *Bit by bit* is an

@@ -69,6 +69,8 @@ const RIGHT: f64 = 638.0;
 const HEIGHT: f64 = 470.0;
 
 fn captures(results: &Results) -> Panel<'_> {
+    // Only works that are measured at every size have a line.
+    let drawn = |name| CAPTURE_WORKS.iter().any(|work| work.name == name);
     Panel {
         left: LEFT,
         title: "Captures: cost per record",
@@ -76,7 +78,11 @@ fn captures(results: &Results) -> Panel<'_> {
         up: "nanoseconds per record (log scale)",
         logarithmic: true,
         written: |octets| size(octets).replace("iB", "i"),
-        rows: results.captures.iter().collect(),
+        rows: results
+            .captures
+            .iter()
+            .filter(|row| drawn(row.work))
+            .collect(),
         works: &CAPTURE_WORKS,
         makers: &MAKERS[..2],
     }
