@@ -1,5 +1,5 @@
--- The C boundary of BTSnoop's readers: the struct that each answer is returned as, field by field. Kind 0 is a refusal,
--- 1 values, 2 the end, 3 "more"; a field that the kind has no value for is 0.
+-- The C boundary of BTSnoop's readers: the struct that each answer is returned as, field by field; a record's is in
+-- `boundary_record`. Kind 0 is a refusal, 1 values, 2 the end, 3 "more"; a field that the kind has no value for is 0.
 use Prim.Native.Nat.{ℕ}
 use Rattle.refusals.specs.Refusals.{Answer, refused, given}
 use Rattle.tiling.specs.Tiling.{Ending, ended, more, broken}

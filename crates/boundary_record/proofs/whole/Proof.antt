@@ -1,15 +1,12 @@
 -- `boundary_record::whole` meets its contract: the row of the record's numbers, each by its octets.
 -- Assumes nothing.
 use Prim.Native.Nat.{_+_}
-use mathlib.Core.Path.{_≡_, ap, ap₂, _∙_}
+use mathlib.Core.Path.{_≡_, ap}
 use native.Mathlib.Omega.{arith}
 use denote.Ref.{now}
-use mir.Syntax.{w64}
-use mir.Facts.{toZ-ofZ}
 use Rattle.refusals.specs.Refusals.{given}
 use Rattle.octets.specs.Numbers.{big, numberAt}
-use Rattle.octets.specs.Signed.{fromHalves}
-use Rattle.octets.proofs.Signs.{halves-at}
+use Rattle.twos_complement.proofs.Halves.{signed64-at}
 use Rattle.btsnoop_rules.specs.declared.Numbers.{Numbers}
 use Rattle.btsnoop_rules.specs.Record.{recordLength, numbersAt, whole}
 use Rattle.btsnoop_rules.proofs.RecordLaws.{numbers-same}
@@ -64,12 +61,11 @@ returns c =
     let a = start .args in
     let original : a .original ≡ numberAt big 4 (now (a .s)) (a .place) = start .pre .1 .0 in
     let included : a .included ≡ numberAt big 4 (now (a .s)) (a .place + 4) = start .pre .1 .1 in
-    let bits = toZ-ofZ {w = w64} {z = c .signed64 .result} (record { sfits = c .signed64 .ok }) in
-    let halves = ap₂ fromHalves (c .before .before .be323 .ensures) (c .before .be324 .ensures) in
     ap (λ (n : Numbers). recordRow (given (whole n (a .place + recordLength) (a .place + recordLength + n .included))))
     (numbers-same original included
     (c .before .before .before .before .be32 .ensures) (c .before .before .before .be322 .ensures)
-    (bits ∙ c .signed64 .ensures ∙ halves ∙ halves-at (now (a .s)) (a .place + 16) (a .place + 20) (omega arith)))
+    (signed64-at (now (a .s)) (a .place + 16) (a .place + 20) (omega arith) (record { sfits = c .signed64 .ok })
+    (c .signed64 .ensures) (c .before .before .be323 .ensures) (c .before .be324 .ensures)))
 
 pub whole-spec : {M : Type 1} → statement M
 whole-spec =

@@ -1,13 +1,9 @@
 -- `btsnoop_record::numbers` meets its contract: each number by the promise of its reader.
 -- Assumes nothing.
 use Prim.Native.Nat.{_+_}
-use mathlib.Core.Path.{ap₂, _∙_}
 use native.Mathlib.Omega.{arith}
 use denote.Ref.{now}
-use mir.Syntax.{w64}
-use mir.Facts.{toZ-ofZ}
-use Rattle.octets.specs.Signed.{fromHalves}
-use Rattle.octets.proofs.Signs.{halves-at}
+use Rattle.twos_complement.proofs.Halves.{signed64-at}
 use Rattle.btsnoop_rules.specs.Record.{numbersAt}
 use Rattle.btsnoop_rules.proofs.RecordLaws.{numbers-same}
 use borrow.Author.Needs.{needs}
@@ -53,12 +49,11 @@ signed64-requires c κs = search needs
 returns : tie.Need-returns
 unfolding numbersAt
 returns c =
-    let bits = toZ-ofZ {w = w64} {z = c .signed64 .result} (record { sfits = c .signed64 .ok }) in
     let a = c .before .before .before .before .before .before .before .before .args in
-    let halves = ap₂ fromHalves (c .before .before .be325 .ensures) (c .before .be326 .ensures) in
     numbers-same (c .before .before .before .before .before .before .be32 .ensures) (c .before .before .before .before .before .be322 .ensures)
     (c .before .before .before .before .be323 .ensures) (c .before .before .before .be324 .ensures)
-    (bits ∙ c .signed64 .ensures ∙ halves ∙ halves-at (now (a .s)) (a .place + 16) (a .place + 20) (omega arith))
+    (signed64-at (now (a .s)) (a .place + 16) (a .place + 20) (omega arith) (record { sfits = c .signed64 .ok })
+    (c .signed64 .ensures) (c .before .before .be325 .ensures) (c .before .be326 .ensures))
 
 pub numbers-spec : {M : Type 1} → statement M
 numbers-spec =

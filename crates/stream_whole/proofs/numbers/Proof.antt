@@ -1,11 +1,8 @@
 -- `stream_whole::numbers` meets its contract: each number by the promise of its reader.
 -- Assumes nothing.
-use mathlib.Core.Path.{refl, ap₂, _∙_}
+use mathlib.Core.Path.{refl}
 use denote.Ref.{now}
-use mir.Syntax.{w64}
-use mir.Facts.{toZ-ofZ}
-use Rattle.octets.specs.Signed.{fromHalves}
-use Rattle.octets.proofs.Signs.{halves-at}
+use Rattle.twos_complement.proofs.Halves.{signed64-at}
 use Rattle.btsnoop_rules.specs.Record.{numbersAt}
 use Rattle.btsnoop_rules.proofs.RecordLaws.{numbers-same}
 use borrow.Author.Needs.{needs}
@@ -36,11 +33,11 @@ signed64-requires c κs = search needs
 returns : tie.Need-returns
 unfolding numbersAt
 returns c =
-    let bits = toZ-ofZ {w = w64} {z = c .signed64 .result} (record { sfits = c .signed64 .ok }) in
-    let halves = ap₂ fromHalves (c .before .before .be323 .ensures) (c .before .be324 .ensures) in
+    let s = now (c .before .before .before .before .before .before .before .before .args .s) in
     numbers-same (c .before .before .before .before .before .before .original .ensures) (c .before .before .before .before .before .included .ensures)
     (c .before .before .before .before .be32 .ensures) (c .before .before .before .be322 .ensures)
-    (bits ∙ c .signed64 .ensures ∙ halves ∙ halves-at (now (c .before .before .before .before .before .before .before .before .args .s)) 16 20 refl)
+    (signed64-at s 16 20 refl (record { sfits = c .signed64 .ok })
+    (c .signed64 .ensures) (c .before .before .be323 .ensures) (c .before .be324 .ensures))
 
 pub numbers-spec : {M : Type 1} → statement M
 numbers-spec =
