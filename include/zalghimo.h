@@ -56,6 +56,8 @@ enum {
     ZALGHIMO_LISTING_INPUT = 20,          /* listing program only: input above 65,536 octets; 65536 */
     ZALGHIMO_RESERVED_PDU_TYPE = 21,      /* LE: PDU type 7; 8, where the flags start */
     ZALGHIMO_RESERVED_PHY = 22,           /* LE: PHY 3; 8, where the flags start */
+    ZALGHIMO_TALLY_BROKEN = 23,           /* sent and received, or commands and data, of a tally handed in do not add up
+                                           * to its records; 0 */
     ZALGHIMO_LONG_STREAM = 32             /* a chunk takes the stream past 2^63 - 1 octets; 0 */
 };
 
@@ -151,10 +153,13 @@ zalghimo_time zalghimo_btsnoop_read_time(int64_t field);
 /* The drops between two records: later less earlier, modulo 2^32. */
 uint32_t zalghimo_btsnoop_drops(uint32_t earlier, uint32_t later);
 
-/* Adds a record to a tally of six numbers: records, received, commands, octets included, lost, and the last drop
- * number, which is taken modulo 2^32 and is of no account while records is 0. Start from six zeros.
- * Refusals: TALLY_SUM; the tally stays as it was. */
-zalghimo_done zalghimo_btsnoop_tally(uint64_t tally[6], uint32_t original, uint32_t included, uint32_t flags,
+/* Adds a record to a tally of nine numbers: records, received, commands, octets included, lost, and the last drop
+ * number, which is taken modulo 2^32 and is of no account while records is 0; then truncated (included below original),
+ * sent (received bit clear) and data (command bit clear). Start from nine zeros: then sent plus received, and commands
+ * plus data, are always records, and TALLY_BROKEN is never given.
+ * A tally of six numbers is of an older release: this function reads and writes nine.
+ * Refusals: TALLY_BROKEN, TALLY_SUM; the tally stays as it was. */
+zalghimo_done zalghimo_btsnoop_tally(uint64_t tally[9], uint32_t original, uint32_t included, uint32_t flags,
                                      uint32_t drops);
 
 /* ---- BTSnoop, as it arrives ----

@@ -31,6 +31,7 @@ static inline const char *zalghimo_refusal_words(uint64_t number)
     case ZALGHIMO_LISTING_INPUT: return "the input is above 65,536 octets";
     case ZALGHIMO_RESERVED_PDU_TYPE: return "the PDU type is 7, which is reserved";
     case ZALGHIMO_RESERVED_PHY: return "the PHY is 3, which is reserved";
+    case ZALGHIMO_TALLY_BROKEN: return "sent and received, or commands and data, do not add up to the tally's records";
     case ZALGHIMO_LONG_STREAM: return "a chunk takes the stream past 2^63 - 1 octets";
     default: return "a number that is not in the list";
     }

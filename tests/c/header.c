@@ -18,7 +18,7 @@ zalghimo_earlier zalghimo_btsnoop_earlier(const uint8_t *, size_t, size_t, const
 zalghimo_time zalghimo_btsnoop_read_time(int64_t);
 zalghimo_time_field zalghimo_btsnoop_write_time(int64_t, uint32_t);
 uint32_t zalghimo_btsnoop_drops(uint32_t, uint32_t);
-zalghimo_done zalghimo_btsnoop_tally(uint64_t[6], uint32_t, uint32_t, uint32_t, uint32_t);
+zalghimo_done zalghimo_btsnoop_tally(uint64_t[9], uint32_t, uint32_t, uint32_t, uint32_t);
 zalghimo_stream zalghimo_stream_fresh(void);
 zalghimo_taken zalghimo_stream_take(zalghimo_stream, const uint8_t *, size_t);
 zalghimo_taken zalghimo_stream_end(zalghimo_stream);
@@ -236,14 +236,19 @@ static void stream_reading(void)
 
 static void btsnoop_tally(void)
 {
-    uint64_t tally[6] = { 10, 20, 30, 40, 50, 60 };
+    uint64_t tally[9] = { 10, 3, 4, 40, 50, 60, 2, 7, 6 };
     done("btsnoop_tally of a command", zalghimo_btsnoop_tally(tally, 9, 5, 2, 67));
-    numbers("tally", tally, 6);
+    numbers("tally", tally, 9);
     done("btsnoop_tally of a packet received", zalghimo_btsnoop_tally(tally, 9, 8, 1, 3));
-    numbers("tally", tally, 6);
-    tally[0] = UINT64_MAX;
+    numbers("tally", tally, 9);
+    done("btsnoop_tally of a whole packet", zalghimo_btsnoop_tally(tally, 8, 8, 0, 3));
+    numbers("tally", tally, 9);
+    tally[3] = UINT64_MAX;
     done("btsnoop_tally past the most", zalghimo_btsnoop_tally(tally, 9, 8, 1, 3));
-    numbers("tally", tally, 6);
+    numbers("tally", tally, 9);
+    tally[7] += 1;
+    done("btsnoop_tally of a broken tally", zalghimo_btsnoop_tally(tally, 9, 8, 1, 3));
+    numbers("tally", tally, 9);
 }
 
 static void btsnoop_writing(void)
@@ -386,6 +391,7 @@ static void constants(void)
     CONSTANT(ZALGHIMO_LISTING_INPUT);
     CONSTANT(ZALGHIMO_RESERVED_PDU_TYPE);
     CONSTANT(ZALGHIMO_RESERVED_PHY);
+    CONSTANT(ZALGHIMO_TALLY_BROKEN);
     CONSTANT(ZALGHIMO_LONG_STREAM);
 
     CONSTANT(ZALGHIMO_RADIOTAP_MOST_FIELDS);

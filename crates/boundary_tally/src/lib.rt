@@ -1,4 +1,4 @@
-// The struct of the C boundary for the tally, and the six numbers that a tally is lent as. Kind 0 is a refusal, 1 an
+// The struct of the C boundary for the tally, and the nine numbers that a tally is lent as. Kind 0 is a refusal, 1 an
 // update done.
 ghost use mathlib.Core.Path.{_≡_};
 ghost use Rattle.tally.specs.Says.{outcomeSays};
@@ -34,8 +34,8 @@ pub fn row(outcome: Outcome) -> Done
     }
 }
 
-// The tally of six numbers, the last drop number taken modulo 2^32.
-pub fn tally_of(numbers: [u64; 6]) -> Tally
+// The tally of nine numbers, the last drop number taken modulo 2^32.
+pub fn tally_of(numbers: [u64; 9]) -> Tally
     ensures { λ r. ⌜ r ≡ tallyOf numbers ⌝ }
 {
     Tally {
@@ -45,11 +45,14 @@ pub fn tally_of(numbers: [u64; 6]) -> Tally
         octets: numbers[3],
         lost: numbers[4],
         last: (numbers[5] % 4294967296) as u32,
+        truncated: numbers[6],
+        sent: numbers[7],
+        data: numbers[8],
     }
 }
 
-// The six numbers of a tally.
-pub fn numbers_of(tally: Tally) -> [u64; 6]
+// The nine numbers of a tally.
+pub fn numbers_of(tally: Tally) -> [u64; 9]
     ensures { λ r. ⌜ r ≡ numbersOf tally ⌝ }
 {
     [
@@ -59,11 +62,14 @@ pub fn numbers_of(tally: Tally) -> [u64; 6]
         tally.octets,
         tally.lost,
         tally.last as u64,
+        tally.truncated,
+        tally.sent,
+        tally.data,
     ]
 }
 
 // Puts the tally of an update's outcome into the lent numbers; a refusal leaves them as found.
-pub fn put(numbers: &mut [u64; 6], outcome: Outcome)
+pub fn put(numbers: &mut [u64; 9], outcome: Outcome)
     ensures { λ _. ⌜ now (numbers .exit) ≡ tallyAfter (now (numbers .entry)) (outcomeSays outcome) ⌝ }
 {
     let answer = outcome.answer;

@@ -1,11 +1,16 @@
 // The running tally over records: an update by value, and the tally lent to it and changed in place.
 ghost use mathlib.Core.Path.{_≡_};
-ghost use Prim.Native.Nat.{_+_};
-ghost use Rattle.tally_rules.specs.Tally.{oneIf, lostBy, fits as sumsFit, updating, afterUpdate};
+ghost use mathlib.Core.Bool.{true};
+ghost use Prim.Native.Nat.{_+_, _^_};
+ghost use lib.Dec.{ltb, eqb};
+ghost use Rattle.tally_rules.specs.Tally.{oneIf, truncated as isTruncated, lostBy, added as withRecord, addsUp, fits as sumsFit, updating, afterUpdate};
 ghost use Rattle.tally.specs.Says.{answerSays, UpdatedSays};
 use refusals::Refusal;
 use tally_rules::Entry;
 use tally_rules::Tally;
+
+// A tally handed in breaks either sum.
+pub const SUM_BROKEN: u32 = 23;
 
 // A tally sum would pass 2^64 - 1.
 pub const SUM_PAST: u32 = 16;
@@ -26,38 +31,43 @@ pub struct Outcome {
 pub fn updated(tally: Tally, entry: Entry) -> Outcome
     ensures { λ r. ⌜ UpdatedSays tally (updating tally entry) r ⌝ }
 {
-    let received = one_if(btsnoop_record::received(entry.flags));
-    let commands = one_if(btsnoop_record::command(entry.flags));
-    let octets = entry.included as u64;
+    if !adds_up(tally) {
+        return refused(tally, SUM_BROKEN);
+    }
     let lost = lost_by(tally, entry.drops);
-    if fits(tally, received, commands, octets, lost) {
-        Outcome {
-            tally: Tally {
-                records: tally.records + 1,
-                received: tally.received + received,
-                commands: tally.commands + commands,
-                octets: tally.octets + octets,
-                lost: tally.lost + lost,
-                last: entry.drops,
-            },
-            answer: TallyAnswer::Done,
-        }
-    } else {
-        Outcome {
-            tally,
-            answer: TallyAnswer::Refused(Refusal {
-                number: SUM_PAST,
-                place: 0,
-            }),
-        }
+    let truncated = (entry.included < entry.original) as u64;
+    if !fits(tally, entry, lost, truncated) {
+        return refused(tally, SUM_PAST);
+    }
+    Outcome {
+        tally: added(tally, entry, lost, truncated),
+        answer: TallyAnswer::Done,
     }
 }
 
-// 1 where a test holds.
-fn one_if(holds: bool) -> u64
-    ensures { λ r. ⌜ r ≡ oneIf holds ⌝ }
+// The tally as found, with a refusal.
+fn refused(tally: Tally, number: u32) -> Outcome
+    ensures { λ r. ⌜ r ≡ record { tally = tally; answer = TallyAnswer.Refused (record { number = number; place = 0 }) } ⌝ }
 {
-    if holds { 1 } else { 0 }
+    Outcome {
+        tally,
+        answer: TallyAnswer::Refused(Refusal { number, place: 0 }),
+    }
+}
+
+// Whether sent plus received equals records, and commands plus data equals records.
+fn adds_up(tally: Tally) -> bool
+    ensures { λ r. ⌜ r ≡ addsUp tally ⌝ }
+{
+    sum_is(tally.sent, tally.received, tally.records)
+        & sum_is(tally.commands, tally.data, tally.records)
+}
+
+// Whether two numbers have this sum, which does not wrap.
+fn sum_is(a: u64, b: u64, sum: u64) -> bool
+    ensures { λ r. ⌜ r ≡ eqb (a + b) sum ⌝ }
+{
+    a <= sum && sum - a == b
 }
 
 // What a record with these drops adds to lost: nothing for the first of a tally.
@@ -71,33 +81,47 @@ fn lost_by(tally: Tally, drops: u32) -> u64
     }
 }
 
-// Whether no sum passes 2^64 - 1.
-fn fits(tally: Tally, received: u64, commands: u64, octets: u64, lost: u64) -> bool
-    ensures { λ r. ⌜ r ≡ sumsFit (record {
-      records = tally .records + 1;
-      received = tally .received + received;
-      commands = tally .commands + commands;
-      octets = tally .octets + octets;
-      lost = tally .lost + lost;
-      last = tally .last;
-    }) ⌝ }
+// Whether all sums stay below 2^64 with the record added. Received, commands, sent and data are no more than the
+// records of a tally that adds up, so that they need no test.
+fn fits(tally: Tally, entry: Entry, lost: u64, truncated: u64) -> bool
+    requires { ⌜ addsUp tally ≡ true ⌝ }
+    requires { ⌜ lost ≡ lostBy tally (entry .drops) ⌝ }
+    requires { ⌜ truncated ≡ oneIf (isTruncated entry) ⌝ }
+    ensures { λ r. ⌜ r ≡ sumsFit (withRecord tally entry) ⌝ }
 {
-    if u64::MAX - tally.records < 1 {
-        return false;
+    sum_fits(tally.records, 1)
+        & sum_fits(tally.octets, entry.included as u64)
+        & sum_fits(tally.lost, lost)
+        & sum_fits(tally.truncated, truncated)
+}
+
+// Whether a sum stays below 2^64.
+fn sum_fits(sum: u64, more: u64) -> bool
+    ensures { λ r. ⌜ r ≡ ltb (sum + more) (2 ^ 64) ⌝ }
+{
+    more <= u64::MAX - sum
+}
+
+// The tally with a record added, where all sums stay below 2^64.
+fn added(tally: Tally, entry: Entry, lost: u64, truncated: u64) -> Tally
+    requires { ⌜ sumsFit (withRecord tally entry) ≡ true ⌝ }
+    requires { ⌜ lost ≡ lostBy tally (entry .drops) ⌝ }
+    requires { ⌜ truncated ≡ oneIf (isTruncated entry) ⌝ }
+    ensures { λ r. ⌜ r ≡ withRecord tally entry ⌝ }
+{
+    let received = btsnoop_record::received(entry.flags);
+    let command = btsnoop_record::command(entry.flags);
+    Tally {
+        records: tally.records + 1,
+        received: tally.received + received as u64,
+        commands: tally.commands + command as u64,
+        octets: tally.octets + entry.included as u64,
+        lost: tally.lost + lost,
+        last: entry.drops,
+        truncated: tally.truncated + truncated,
+        sent: tally.sent + !received as u64,
+        data: tally.data + !command as u64,
     }
-    if u64::MAX - tally.received < received {
-        return false;
-    }
-    if u64::MAX - tally.commands < commands {
-        return false;
-    }
-    if u64::MAX - tally.octets < octets {
-        return false;
-    }
-    if u64::MAX - tally.lost < lost {
-        return false;
-    }
-    true
 }
 
 // Adds a record to a lent tally, changed in place; a refusal leaves it as found.

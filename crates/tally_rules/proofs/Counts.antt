@@ -1,33 +1,62 @@
--- Tallying the records of a list adds its counts and sums to a tally.
+-- Tallying the records of a list adds its counts and sums to a tally, and keeps the two sums.
 -- Assumes nothing.
 use Prim.Native.Nat.{ℕ, _+_}
-use mathlib.Core.Path.{_≡_, refl, sym, ap, _∙_}
-use mathlib.Core.Bool.{Bool, true, false, cond}
+use mathlib.Core.Path.{_≡_, refl, sym, ap, subst, _∙_}
+use mathlib.Core.Bool.{Bool, true, false, cond, not}
 use mathlib.Core.List.{List, [], _∷_}
+use mathlib.Core.Logic.{inl, inr}
 use native.Mathlib.Omega.{arith}
 use lib.ListN.{length}
 use lib.Dec.{eqb}
 use borrow.Author.Tests.{ne-eqb}
-use Rattle.refusals.specs.Refusals.{refused, given}
+use Rattle.refusals.specs.Refusals.{Answer, refused, given}
+use Rattle.refusals.proofs.Orders.{not-refused, other-number}
 use Rattle.btsnoop_rules.specs.Record.{received, command}
 use Rattle.btsnoop_rules.specs.Drops.{dropsBetween}
 use Rattle.tally_rules.specs.declared.Tally.{Tally}
 use Rattle.tally_rules.specs.declared.Entry.{Entry}
-use Rattle.tally_rules.specs.Tally.{sumPast, lostBy, added, fits, updating}
-use Rattle.tally_rules.specs.Counts.{emptyTally, onUpdate, tallied, sumOf, countOf, differencesFrom, differences, lastDrops, TallyCounts}
+use Rattle.tally_rules.specs.Tally.{sumBroken, sumPast, truncated, sent, isData, oneIf, lostBy, added, updating, afterUpdate}
+use Rattle.tally_rules.specs.Orders.{SumBreaks}
+use Rattle.tally_rules.proofs.Orders.{update-exactly}
+use Rattle.tally_rules.specs.Counts.{emptyTally, unlessRefused, counted, tallied, sumOf, differencesFrom, differences, lastDrops, BothSums, TallyCounts, SumsHold, Never23}
+
+-- a tally that an update gives has the record added
+given-added : (t : Tally) (e : Entry) (u : Tally) → updating t e ≡ given u → u ≡ added t e
+given-added t e u h =
+    let unbroken = update-exactly t e .otherwise (λ breaks. not-refused (sym h ∙ update-exactly t e .here .1 breaks)) in
+    let is = unbroken .otherwise (λ passes. not-refused (sym h ∙ unbroken .here .1 passes)) in
+    cc
+
+-- what holds of no records, and of a record before others where it holds of the tally with it added and these, holds of
+-- every list of updates
+tallying : (P : Tally → List Entry → Tally → Type 0) → ((t : Tally) → P t [] t)
+    → ((t : Tally) (e : Entry) (es : List Entry) (u : Tally) → P (added t e) es u → P t (e ∷ es) u)
+    → (es : List Entry) (t : Tally) → P t (counted es t) (tallied es t)
+tallying P none more [] t = none t
+tallying P none more (e ∷ es) t = go (updating t e) (given-added t e) (tallying P none more es)
+  where
+    go : (answer : Answer Tally) → ((u : Tally) → answer ≡ given u → u ≡ added t e)
+        → ((u : Tally) → P u (counted es u) (tallied es u))
+        → P t (unlessRefused answer e (counted es (afterUpdate t answer))) (tallied es (afterUpdate t answer))
+    go (refused n q) is rest = rest t
+    go (given u) is rest =
+        more t e (counted es u) (tallied es u) (subst (λ (v : Tally). P v (counted es u) (tallied es u)) (is u refl) (rest u))
+
+-- a number to which every record adds something of its own
+sums : (f : Tally → ℕ) (g : Entry → ℕ) → ((t : Tally) (e : Entry) → f (added t e) ≡ f t + g e)
+    → (es : List Entry) (t : Tally) → f (tallied es t) ≡ f t + sumOf g (counted es t)
+sums f g adds =
+    tallying (λ t es u. f u ≡ f t + sumOf g es) (λ t. omega arith)
+    (λ t e es u rest. rest ∙ ap (λ (n : ℕ). n + sumOf g es) (adds t e) ∙ omega arith)
+
+-- a list is as long as its records are, each counted once
+length-sums : (es : List Entry) → sumOf (λ (e : Entry). 1) es ≡ length es
+length-sums [] = refl
+length-sums (e ∷ es) = omega (arith, length-sums es)
 
 -- what the records of a list add to lost
 abbrev lostFrom : Tally → List Entry → ℕ
 lostFrom t es = cond (eqb (t .records) 0) (differences es) (differencesFrom (t .last) es)
-
--- a tally with the counts and sums of a list added
-record Adds (es : List Entry) (t u : Tally) : Type 0 where
-  records : u .records ≡ t .records + length es
-  received : u .received ≡ t .received + countOf (λ (e : Entry). received (e .flags)) es
-  commands : u .commands ≡ t .commands + countOf (λ (e : Entry). command (e .flags)) es
-  octets : u .octets ≡ t .octets + sumOf (λ (e : Entry). e .included) es
-  lost : u .lost ≡ t .lost + lostFrom t es
-  last : u .last ≡ lastDrops (t .last) es
 
 -- no record adds nothing to lost
 lost-none : (t : Tally) → lostFrom t [] ≡ 0
@@ -49,43 +78,51 @@ lost-first t e es =
     go true = omega arith
     go false = refl
 
-adds : (es : List Entry) (t u : Tally) → tallied es t ≡ given u → Adds es t u
-unfolding updating
-adds [] t u h =
-    let same : t ≡ u = cc in
-    record {
-      records = sym (ap (λ (x : Tally). x .records) same) ∙ omega arith;
-      received = sym (ap (λ (x : Tally). x .received) same) ∙ omega arith;
-      commands = sym (ap (λ (x : Tally). x .commands) same) ∙ omega arith;
-      octets = sym (ap (λ (x : Tally). x .octets) same) ∙ omega arith;
-      lost = sym (ap (λ (x : Tally). x .lost) same) ∙ omega (arith, lost-none t);
-      last = sym (ap (λ (x : Tally). x .last) same);
-    }
-adds (e ∷ es) t u h = go (fits (added t e)) (λ k. adds es (added t e) u k) h
-  where
-    go : (z : Bool) → (tallied es (added t e) ≡ given u → Adds es (added t e) u)
-        → onUpdate (tallied es) (cond z (given (added t e)) (refused sumPast 0)) ≡ given u → Adds (e ∷ es) t u
-    go true rest k =
-        let r = rest k in
-        record {
-          records = r .records ∙ omega arith;
-          received = r .received ∙ omega arith;
-          commands = r .commands ∙ omega arith;
-          octets = r .octets ∙ omega arith;
-          lost = r .lost ∙ omega (arith, lost-first t e es);
-          last = r .last;
-        }
-    go false rest k = let z : _≡_ {A = ℕ} 0 1 = cc in absurd (omega arith)
+losts : (es : List Entry) (t : Tally) → tallied es t .lost ≡ t .lost + lostFrom t (counted es t)
+losts =
+    tallying (λ t es u. u .lost ≡ t .lost + lostFrom t es) (λ t. omega (arith, lost-none t))
+    (λ t e es u rest. rest ∙ omega (arith, lost-first t e es))
 
--- tallying the records of a list from any empty tally gives its counts and sums
+lasts : (es : List Entry) (t : Tally) → tallied es t .last ≡ lastDrops (t .last) (counted es t)
+lasts = tallying (λ t es u. u .last ≡ lastDrops (t .last) es) (λ t. refl) (λ t e es u rest. rest)
+
+-- any list of updates from any empty tally gives the counts and sums of those that are not refused
 pub tally-counts : TallyCounts
-tally-counts drops es t h =
-    let a = adds es (emptyTally drops) t h in
+tally-counts drops es =
+    let t = emptyTally drops in
     record {
-      records = a .records ∙ omega arith;
-      received = a .received ∙ omega arith;
-      commands = a .commands ∙ omega arith;
-      octets = a .octets ∙ omega arith;
-      lost = a .lost ∙ omega arith;
-      last = a .last;
+      records = sums (λ (t : Tally). t .records) (λ (e : Entry). 1) (λ t e. refl) es t ∙ omega (arith, length-sums (counted es t));
+      received = sums (λ (t : Tally). t .received) (λ (e : Entry). oneIf (received (e .flags))) (λ t e. refl) es t ∙ omega arith;
+      commands = sums (λ (t : Tally). t .commands) (λ (e : Entry). oneIf (command (e .flags))) (λ t e. refl) es t ∙ omega arith;
+      octets = sums (λ (t : Tally). t .octets) (λ (e : Entry). e .included) (λ t e. refl) es t ∙ omega arith;
+      lost = losts es t ∙ omega arith;
+      last = lasts es t;
+      truncated = sums (λ (t : Tally). t .truncated) (λ (e : Entry). oneIf (truncated e)) (λ t e. refl) es t ∙ omega arith;
+      sent = sums (λ (t : Tally). t .sent) (λ (e : Entry). oneIf (sent (e .flags))) (λ t e. refl) es t ∙ omega arith;
+      «data» = sums (λ (t : Tally). t .«data») (λ (e : Entry). oneIf (isData (e .flags))) (λ t e. refl) es t ∙ omega arith;
     }
+
+-- a test and its contrary count one record together
+one : (z : Bool) → oneIf (not z) + oneIf z ≡ 1
+one true = refl
+one false = refl
+
+-- a record added keeps both sums
+added-keeps : (t : Tally) (e : Entry) → BothSums t → BothSums (added t e)
+added-keeps t e both = (omega (arith, both .0, one (received (e .flags))), omega (arith, both .1, one (command (e .flags))))
+
+pub sums-hold : SumsHold
+sums-hold drops es =
+    tallying (λ t _ u. BothSums t → BothSums u) (λ t both. both) (λ t e _ u rest both. rest (added-keeps t e both)) es
+    (emptyTally drops) (refl, refl)
+
+-- no sum is broken where both hold
+none-breaks : (t : Tally) → BothSums t → SumBreaks t → ⊥
+none-breaks t both (inl breaks) = breaks (both .0)
+none-breaks t both (inr breaks) = breaks (both .1)
+
+pub never-23 : Never23
+never-23 drops es e place h =
+    let t = tallied es (emptyTally drops) in
+    let unbroken = update-exactly t e .otherwise (none-breaks t (sums-hold drops es)) in
+    not-refused (sym (unbroken .otherwise (λ passes. other-number {n = sumPast} {m = sumBroken} (λ z. omega (arith, z)) (sym (unbroken .here .1 passes) ∙ h))) ∙ h)

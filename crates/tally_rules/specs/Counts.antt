@@ -9,20 +9,37 @@ use Rattle.btsnoop_rules.specs.Record.{received, command}
 use Rattle.btsnoop_rules.specs.Drops.{dropsBetween}
 use Rattle.tally_rules.specs.declared.Tally.{Tally}
 use Rattle.tally_rules.specs.declared.Entry.{Entry}
-use Rattle.tally_rules.specs.Tally.{oneIf, updating}
+use Rattle.tally_rules.specs.Tally.{sumBroken, truncated, sent, isData, oneIf, updating, afterUpdate}
 
 -- a tally with nothing counted, whatever its last drop number, which is of no account
 abbrev pub emptyTally : (drops : ℕ) → Tally
-emptyTally d = record { records = 0; received = 0; commands = 0; octets = 0; lost = 0; last = d }
+emptyTally d =
+    record {
+      records = 0;
+      received = 0;
+      commands = 0;
+      octets = 0;
+      lost = 0;
+      last = d;
+      truncated = 0;
+      sent = 0;
+      «data» = 0;
+    }
 
--- updates one after another, each of the tally that the last left, up to the first refusal
-abbrev pub onUpdate : (Tally → Answer Tally) → Answer Tally → Answer Tally
-onUpdate rest (refused n q) = refused n q
-onUpdate rest (given t) = rest t
+-- the tally after updates one after another, each of the tally that the last left; a refused one leaves it as found
+abbrev pub tallied : List Entry → Tally → Tally
+tallied [] t = t
+tallied (e ∷ es) t = tallied es (afterUpdate t (updating t e))
 
-abbrev pub tallied : List Entry → Tally → Answer Tally
-tallied [] t = given t
-tallied (e ∷ es) t = onUpdate (tallied es) (updating t e)
+-- the records of a list without the first, or with it where its update is not refused
+abbrev pub unlessRefused : Answer Tally → Entry → List Entry → List Entry
+unlessRefused (refused n q) e es = es
+unlessRefused (given t) e es = e ∷ es
+
+-- of the records of a list those whose updates, one after another, are not refused
+abbrev pub counted : List Entry → Tally → List Entry
+counted [] t = []
+counted (e ∷ es) t = unlessRefused (updating t e) e (counted es (afterUpdate t (updating t e)))
 
 -- a sum over a list
 abbrev pub sumOf : (Entry → ℕ) → List Entry → ℕ
@@ -55,7 +72,23 @@ pub record Counts (drops : ℕ) (es : List Entry) (t : Tally) : Type 0 where
   pub octets : t .octets ≡ sumOf (λ (e : Entry). e .included) es
   pub lost : t .lost ≡ differences es
   pub last : t .last ≡ lastDrops drops es
+  pub truncated : t .truncated ≡ countOf truncated es
+  pub sent : t .sent ≡ countOf (λ (e : Entry). sent (e .flags)) es
+  pub «data» : t .«data» ≡ countOf (λ (e : Entry). isData (e .flags)) es
 
--- tallying the records of a list from any empty tally gives them, where none is refused
+-- any list of updates from any empty tally gives those of the updates that are not refused
 abbrev pub TallyCounts : Type 0
-TallyCounts = (drops : ℕ) (es : List Entry) (t : Tally) → tallied es (emptyTally drops) ≡ given t → Counts drops es t
+TallyCounts = (drops : ℕ) (es : List Entry) → Counts drops (counted es (emptyTally drops)) (tallied es (emptyTally drops))
+
+-- sent plus received equals records, and commands plus data equals records
+abbrev pub BothSums : Tally → Type 0
+BothSums t = (t .sent + t .received ≡ t .records) × (t .commands + t .«data» ≡ t .records)
+
+-- both sums hold after any list of updates from any empty tally
+abbrev pub SumsHold : Type 0
+SumsHold = (drops : ℕ) (es : List Entry) → BothSums (tallied es (emptyTally drops))
+
+-- and no update after any such list is refused with 23
+abbrev pub Never23 : Type 0
+Never23 = (drops : ℕ) (es : List Entry) (e : Entry) (place : ℕ)
+    → updating (tallied es (emptyTally drops)) e ≡ refused sumBroken place → ⊥

@@ -21,7 +21,7 @@ pub fn answer(op: u8, q: &[u8], first: &[u8]) -> bool
     own
 }
 
-// The six numbers of the tally are the first octets, 8 each; they are lent to the C function, and as a tally.
+// The nine numbers of the tally are the first octets, 8 each; they are lent to the C function, and as a tally.
 fn tally(q: &[u8], first: &[u8]) {
     let mut numbers = [
         number_at::be64(first, 0),
@@ -30,6 +30,9 @@ fn tally(q: &[u8], first: &[u8]) {
         number_at::be64(first, 24),
         number_at::be64(first, 32),
         number_at::be64(first, 40),
+        number_at::be64(first, 48),
+        number_at::be64(first, 56),
+        number_at::be64(first, 64),
     ];
     let entry = Entry {
         original: low32(number_at::be64(q, 1)),
@@ -64,8 +67,8 @@ fn lent(tally: Tally, entry: Entry) -> Outcome
     }
 }
 
-// An update's answer, and the six numbers of the tally afterwards.
-fn shown(r: Done, numbers: [u64; 6]) {
+// An update's answer, and the nine numbers of the tally afterwards.
+fn shown(r: Done, numbers: [u64; 9]) {
     question_lines::numbers(
         &[
             r.kind,
@@ -77,6 +80,9 @@ fn shown(r: Done, numbers: [u64; 6]) {
             numbers[3],
             numbers[4],
             numbers[5],
+            numbers[6],
+            numbers[7],
+            numbers[8],
         ],
     );
 }

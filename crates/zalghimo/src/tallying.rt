@@ -4,10 +4,10 @@ ghost use Rattle.tally_rules.specs.Tally.{updating};
 ghost use Rattle.boundary_tally.specs.Rows.{tallyOf, entryOf, doneRow, tallyAfter};
 use boundary_tally::Done;
 
-// Adds a record to a lent tally of six numbers, or refuses and leaves the tally as found.
+// Adds a record to a lent tally of nine numbers, or refuses and leaves the tally as found.
 #[no_mangle]
 pub extern "C" fn zalghimo_btsnoop_tally(
-    numbers: &mut [u64; 6],
+    numbers: &mut [u64; 9],
     original: u32,
     included: u32,
     flags: u32,

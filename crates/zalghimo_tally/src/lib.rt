@@ -5,8 +5,8 @@ ghost use Rattle.boundary_tally.specs.Rows.{tallyOf, entryOf, doneRow, tallyAft
 use boundary_tally::Done;
 use tally_rules::Entry;
 
-// Adds a record to a lent tally of six numbers, or refuses and leaves the tally as found.
-pub fn add(numbers: &mut [u64; 6], original: u32, included: u32, flags: u32, drops: u32) -> Done
+// Adds a record to a lent tally of nine numbers, or refuses and leaves the tally as found.
+pub fn add(numbers: &mut [u64; 9], original: u32, included: u32, flags: u32, drops: u32) -> Done
     ensures { λ r. ⌜ r ≡ doneRow (updating (tallyOf (now (numbers .entry))) (entryOf original included flags drops)) ⌝ }
     ensures { λ _. ⌜ now (numbers .exit) ≡ tallyAfter (now (numbers .entry)) (updating (tallyOf (now (numbers .entry))) (entryOf original included flags drops)) ⌝ }
 {

@@ -25,6 +25,7 @@ pub enum Reason {
     ListingInput = 20,
     ReservedPduType = 21,
     ReservedPhy = 22,
+    TallyBroken = 23,
     LongStream = 32,
 }
 

@@ -1,12 +1,15 @@
-//! The tally: six numbers that its owner lends and every record updates.
+//! The tally: nine numbers that its owner lends and every record updates.
 
 use crate::btsnoop::drops;
 use crate::refusal::{Reason, Refusal};
 
-/// Records, received, commands, octets included, lost, last drop number (taken modulo 2^32).
-pub type Tally = [u64; 6];
+/// Records, received, commands, octets included, lost, last drop number (taken modulo 2^32), truncated, sent, data.
+pub type Tally = [u64; 9];
 
-/// What the tally is given of a record; the original length is of no account.
+/// The place of the last drop number, which is no sum.
+pub const LAST_DROP_NUMBER: usize = 5;
+
+/// What the tally is given of a record.
 #[derive(Clone, Copy, Debug, PartialEq, Eq)]
 pub struct Counted {
     pub original_length: u32,
@@ -15,13 +18,12 @@ pub struct Counted {
     pub cumulative_drops: u32,
 }
 
-/// What a record adds to the five sums.
-pub fn added(tally: &Tally, record: &Counted) -> [u64; 5] {
-    let [records, .., last_drop_number] = *tally;
+/// What a record adds to each of the eight sums; to the last drop number, 0.
+pub fn added(tally: &Tally, record: &Counted) -> Tally {
     let bit = |place: u32| u64::from(record.flags) >> place & 1;
-    let lost = match records {
+    let lost = match tally[0] {
         0 => 0,
-        _ => drops(last_drop_number as u32, record.cumulative_drops),
+        _ => drops(tally[LAST_DROP_NUMBER] as u32, record.cumulative_drops),
     };
     [
         1,
@@ -29,19 +31,32 @@ pub fn added(tally: &Tally, record: &Counted) -> [u64; 5] {
         bit(1),
         record.included_length.into(),
         lost.into(),
+        0,
+        (record.included_length < record.original_length).into(),
+        1 - bit(0),
+        1 - bit(1),
     ]
+}
+
+/// Whether sent and received, and commands and data, add up to records.
+fn adds_up(tally: &Tally) -> bool {
+    let [records, received, commands, _, _, _, _, sent, data] = tally.map(u128::from);
+    sent + received == records && commands + data == records
 }
 
 /// Adds a record; on a refusal the tally is as found.
 pub fn add(tally: &mut Tally, record: &Counted) -> Result<(), Refusal> {
+    if !adds_up(tally) {
+        return Err(Reason::TallyBroken.at(0));
+    }
     let pairs = tally.iter().zip(added(tally, record));
     let sums = pairs.map(|(sum, more)| u128::from(*sum) + u128::from(more));
     let fitting: Vec<u64> = sums.filter_map(|sum| sum.try_into().ok()).collect();
-    let [records, received, commands, octets, lost] = fitting[..] else {
+    let Ok(mut after) = Tally::try_from(fitting) else {
         return Err(Reason::TallySum.at(0));
     };
-    let last_drop_number = record.cumulative_drops.into();
-    *tally = [records, received, commands, octets, lost, last_drop_number];
+    after[LAST_DROP_NUMBER] = record.cumulative_drops.into();
+    *tally = after;
     Ok(())
 }
 
@@ -51,7 +66,12 @@ mod tests {
 
     const MOST: u64 = u64::MAX;
 
-    /// A received command of 4 octets with this drop number.
+    const EMPTY: Tally = [0; 9];
+
+    /// Three records, one of them received, two of them commands.
+    const THREE: Tally = [3, 1, 2, 40, 50, 4_294_967_290, 1, 2, 1];
+
+    /// A truncated received command of 4 octets with this drop number.
     fn record(cumulative_drops: u32) -> Counted {
         Counted {
             original_length: 9,
@@ -63,42 +83,42 @@ mod tests {
 
     fn after(tally: Tally, record: Counted) -> Tally {
         let mut after = tally;
-        assert_eq!(add(&mut after, &record), Ok(()));
+        assert_eq!(add(&mut after, &record), Ok(()), "{tally:?}");
         after
     }
 
-    fn refuses(tally: Tally, record: Counted) {
+    fn refuses(reason: Reason, tally: Tally, record: Counted) {
         let mut after = tally;
-        let refusal = Err(Reason::TallySum.at(0));
-        assert_eq!(add(&mut after, &record), refusal, "{tally:?}");
+        assert_eq!(add(&mut after, &record), Err(reason.at(0)), "{tally:?}");
         assert_eq!(after, tally);
     }
 
     #[test]
     fn first_record_loses_nothing() {
-        assert_eq!(after([0; 6], record(7)), [1, 1, 1, 4, 0, 7]);
-        let found = [0, 0, 0, 0, 0, MOST];
-        assert_eq!(after(found, record(7)), [1, 1, 1, 4, 0, 7]);
-        let found = [0, 5, 6, 7, MOST, 3];
-        assert_eq!(after(found, record(9)), [1, 6, 7, 11, MOST, 9]);
+        assert_eq!(after(EMPTY, record(7)), [1, 1, 1, 4, 0, 7, 1, 0, 0]);
+        let found = [0, 0, 0, 0, 0, MOST, 0, 0, 0];
+        assert_eq!(after(found, record(7)), [1, 1, 1, 4, 0, 7, 1, 0, 0]);
+        let found = [0, 0, 0, 7, MOST, 3, 8, 0, 0];
+        assert_eq!(after(found, record(9)), [1, 1, 1, 11, MOST, 9, 9, 0, 0]);
     }
 
     #[test]
     fn p7_later_records_add_their_difference() {
-        let first = after([0; 6], record(4_294_967_290));
+        let first = after(EMPTY, record(4_294_967_290));
         let second = after(first, record(5));
-        assert_eq!(second, [2, 2, 2, 8, 11, 5]);
-        assert_eq!(after(second, record(5)), [3, 3, 3, 12, 11, 5]);
+        assert_eq!(second, [2, 2, 2, 8, 11, 5, 2, 0, 0]);
+        assert_eq!(after(second, record(5)), [3, 3, 3, 12, 11, 5, 3, 0, 0]);
         let back = after(second, record(4));
         assert_eq!(back[4], 11 + u64::from(u32::MAX));
     }
 
     #[test]
     fn last_drop_number_modulo_2_to_32() {
-        let found = [1, 0, 0, 0, 0, (6 << 32) + 4_294_967_290];
-        assert_eq!(after(found, record(5)), [2, 1, 1, 4, 11, 5]);
-        let found = [1, 0, 0, 0, 0, MOST];
-        assert_eq!(after(found, record(0)), [2, 1, 1, 4, 1, 0]);
+        let mut found = THREE;
+        found[LAST_DROP_NUMBER] = (6 << 32) + 4_294_967_290;
+        assert_eq!(after(found, record(5)), [4, 2, 3, 44, 61, 5, 2, 2, 1]);
+        found[LAST_DROP_NUMBER] = MOST;
+        assert_eq!(after(found, record(0)), [4, 2, 3, 44, 51, 0, 2, 2, 1]);
     }
 
     #[test]
@@ -107,33 +127,112 @@ mod tests {
             for others in [0, 4, 0x8000_0000, 0xFFFF_FFFC] {
                 let flags = flags | others;
                 let record = Counted { flags, ..record(0) };
-                assert_eq!(after([0; 6], record), [1, received, commands, 4, 0, 0]);
+                let (sent, data) = (1 - received, 1 - commands);
+                let counted = [1, received, commands, 4, 0, 0, 1, sent, data];
+                assert_eq!(after(EMPTY, record), counted);
             }
         }
     }
 
     #[test]
+    fn truncated_below_the_original_length() {
+        let lengths = [
+            (0, 0, 0),
+            (1, 0, 1),
+            (9, 8, 1),
+            (9, 9, 0),
+            (9, 10, 0),
+            (0, u32::MAX, 0),
+        ];
+        for (original_length, included_length, truncated) in lengths {
+            let record = Counted {
+                original_length,
+                included_length,
+                ..record(0)
+            };
+            assert_eq!(after(EMPTY, record)[6], truncated);
+        }
+    }
+
+    #[test]
     fn each_sum_just_fits_or_passes() {
-        let adds = [1, 1, 1, 4, 11];
-        for (sum, more) in adds.into_iter().enumerate() {
-            let mut found = [1, 1, 1, 1, 1, 4_294_967_290];
-            found[sum] = MOST - more;
-            assert_eq!(after(found, record(5))[sum], MOST);
-            found[sum] += 1;
-            refuses(found, record(5));
+        // Of the parts of the records, each is the whole in turn.
+        for parts in [[1, 1, 0, 0], [0, 0, 1, 1]] {
+            let flags = parts[0] + 2 * parts[1];
+            let [received, commands, sent, data] = parts.map(|part| part as u64 * (MOST - 1));
+            let found = [
+                MOST - 1,
+                received,
+                commands,
+                MOST - 4,
+                MOST - 11,
+                4_294_967_290,
+                MOST - 1,
+                sent,
+                data,
+            ];
+            let record = Counted { flags, ..record(5) };
+            let [received, commands, sent, data] = parts.map(|part| part as u64 * MOST);
+            let full = [MOST, received, commands, MOST, MOST, 5, MOST, sent, data];
+            assert_eq!(after(found, record), full);
+            for sum in [3, 4, 6] {
+                let mut found = found;
+                found[sum] += 1;
+                refuses(Reason::TallySum, found, record);
+            }
+            let mut found = full;
+            found[3] = 0;
+            found[4] = 0;
+            found[6] = 0;
+            refuses(Reason::TallySum, found, record);
         }
     }
 
     #[test]
     fn most_that_is_not_added_to_fits() {
         let idle = Counted {
+            original_length: 0,
             included_length: 0,
             flags: 0xFFFF_FFFC,
             ..record(8)
         };
-        let found = [1, MOST, MOST, MOST, MOST, 8];
-        assert_eq!(after(found, idle), [2, MOST, MOST, MOST, MOST, 8]);
-        refuses([MOST, 0, 0, 0, 0, 8], idle);
-        refuses([MOST; 6], record(0));
+        let found = [1, 1, 1, MOST, MOST, 8, MOST, 0, 0];
+        assert_eq!(after(found, idle), [2, 1, 1, MOST, MOST, 8, MOST, 1, 1]);
+    }
+
+    #[test]
+    fn either_sum_broken() {
+        for (place, by) in [(0, 1), (0, MOST), (1, 1), (2, 1), (7, MOST), (8, MOST)] {
+            let mut found = THREE;
+            found[place] = found[place].wrapping_add(by);
+            refuses(Reason::TallyBroken, found, record(5));
+        }
+        refuses(Reason::TallyBroken, [0, 1, 0, 0, 0, 0, 0, 0, 0], record(5));
+        refuses(Reason::TallyBroken, [1, 1, 1, 0, 0, 0, 0, 1, 0], record(5));
+    }
+
+    #[test]
+    fn sums_equal_modulo_2_to_64() {
+        let first = [3, MOST, 2, 40, 50, 5, 1, 4, 1];
+        refuses(Reason::TallyBroken, first, record(5));
+        let second = [3, 1, 1 << 63, 40, 50, 5, 1, 2, (1 << 63) + 3];
+        refuses(Reason::TallyBroken, second, record(5));
+        let both = [0, 1, MOST, 0, 0, 5, 0, MOST, 1];
+        refuses(Reason::TallyBroken, both, record(5));
+    }
+
+    #[test]
+    fn broken_before_a_sum_passes() {
+        refuses(Reason::TallyBroken, [MOST; 9], record(5));
+        refuses(
+            Reason::TallyBroken,
+            [MOST, MOST, MOST, 0, 0, 5, 0, 0, 1],
+            record(5),
+        );
+        refuses(
+            Reason::TallySum,
+            [MOST, MOST, MOST, 0, 0, 5, 0, 0, 0],
+            record(5),
+        );
     }
 }

@@ -55,7 +55,7 @@ pub fn drops(earlier: u32, later: u32) -> u32 {
 
 /// `zalghimo_btsnoop_tally`
 #[inline]
-pub fn tally(tally: &mut [u64; 6], original: u32, included: u32, flags: u32, drops: u32) -> Done {
+pub fn tally(tally: &mut [u64; 9], original: u32, included: u32, flags: u32, drops: u32) -> Done {
     unsafe { raw::zalghimo_btsnoop_tally(tally.as_mut_ptr(), original, included, flags, drops) }
 }
 

@@ -126,6 +126,8 @@ reasons! {
     ReservedPduType = 21, "the PDU type is 7, which is reserved";
     /// LE: PHY 3; place 8, where the flags start.
     ReservedPhy = 22, "the PHY is 3, which is reserved";
+    /// A tally whose sent and received, or whose commands and data, do not add up to its records; place 0.
+    TallyBroken = 23, "sent and received, or commands and data, do not add up to the tally's records";
     /// A chunk takes the stream past 2^63 − 1 octets; place 0.
     LongStream = 32, "a chunk takes the stream past 2^63 - 1 octets";
 }

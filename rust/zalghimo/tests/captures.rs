@@ -117,13 +117,14 @@ fn tally_of_three() {
     for record in Capture::new(&octets).expect("accepted") {
         tally.add(&record.expect("whole")).expect("room");
     }
-    assert_eq!(tally.numbers(), [3, 2, 1, 5, 12, 6]);
+    assert_eq!(tally.numbers(), [3, 2, 1, 5, 12, 6, 1, 1, 2]);
     assert_eq!(
         (tally.records(), tally.received(), tally.commands()),
         (3, 2, 1)
     );
     assert_eq!((tally.octets_included(), tally.lost()), (5, 12));
     assert_eq!(tally.last_drop_number(), Some(6));
+    assert_eq!((tally.truncated(), tally.sent(), tally.data()), (1, 1, 2));
 }
 
 #[test]

@@ -109,19 +109,26 @@ fn times() {
 }
 
 #[test]
-fn full_tally_stays() {
+fn refused_tally_stays() {
     let octets = file(&[(RESET_FIELDS, RESET.to_vec())]);
     let record = record_at(&octets, 16).expect("whole").expect("a record");
-    let full = Tally::from_numbers([1, 0, u64::MAX, 0, 0, 0]);
-    let mut tally = full;
-    assert_eq!(refused(tally.add(&record)), (16, 0));
-    assert_eq!(tally, full);
+    let most = u64::MAX;
+    let tallies = [
+        ([1, 0, 1, most, 0, 0, 0, 1, 0], 16),
+        ([1, 0, 1, most, 0, 0, 0, 1, 1], 23),
+        ([1, 2, 1, 0, 0, 0, 0, most, 0], 23),
+    ];
+    for (numbers, number) in tallies {
+        let mut tally = Tally::from_numbers(numbers);
+        assert_eq!(refused(tally.add(&record)), (number, 0));
+        assert_eq!(tally.numbers(), numbers);
+    }
 }
 
 #[test]
 fn reasons_are_in_the_order_of_their_numbers() {
     let numbers: Vec<u32> = Reason::ALL.iter().map(|reason| reason.number()).collect();
-    let wanted: Vec<u32> = (1..=22).chain([32]).collect();
+    let wanted: Vec<u32> = (1..=23).chain([32]).collect();
     assert_eq!(numbers, wanted);
 }
 

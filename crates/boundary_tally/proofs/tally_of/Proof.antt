@@ -26,6 +26,15 @@ array-read-t20 c = search needs
 cast-t22 : tie.Need-cast-t22
 cast-t22 c = search needs
 
+array-read-t25 : tie.Need-array-read-t25
+array-read-t25 c = search needs
+
+array-read-t28 : tie.Need-array-read-t28
+array-read-t28 c = search needs
+
+array-read-t31 : tie.Need-array-read-t31
+array-read-t31 c = search needs
+
 returns : tie.Need-returns
 returns c = refl
 
@@ -40,4 +49,7 @@ tally-of-spec =
     array-read-t17
     array-read-t20
     cast-t22
+    array-read-t25
+    array-read-t28
+    array-read-t31
     returns)

@@ -1,108 +1,91 @@
--- `tally::updated` meets its contract: what the record adds, and whether the sums fit, decide the update.
+-- `tally::updated` meets its contract: the tally's own two sums, and whether all fit with the record added, decide it.
 -- Assumes nothing.
-use native.Mathlib.Omega.{arith}
-use mathlib.Core.Path.{sym, ap, _∙_}
-use Rattle.tally_rules.specs.Tally.{oneIf}
-use Rattle.tally.proofs.TallyLaws.{Fits, fit, update-done, update-refused}
+use mathlib.Core.Path.{_≡_, refl, sym, subst}
+use mathlib.Core.Bool.{true}
+use Rattle.tally_rules.specs.declared.Tally.{Tally}
+use Rattle.tally_rules.specs.Tally.{truncated, added, addsUp, fits, updating}
+use Rattle.tally.specs.declared.TallyAnswer.{TallyAnswer}
+use Rattle.tally.specs.Says.{UpdatedSays}
+use Rattle.tally.proofs.TallyLaws.{denied, granted, counted, update-broken, update-past, update-done}
 use borrow.Author.Needs.{needs}
 use Rattle.tally.proofs.updated.Statement.{statement}
 use Rattle.tally.proofs.updated.Tie as tie
 
--- where the test holds all sums fit
-fitting : (c : tie.Then1)
-    → Fits (c .before .before .before .before .before .before .before .before .args .tally)
-    (c .before .before .before .before .before .before .one-if .result)
-    (c .before .before .before .before .one-if2 .result)
-    (c .before .before .before .before .before .before .before .before .args .entry .included)
-    (c .before .before .lost-by .result)
+-- behind the first test the tally adds up
+adding : (c : tie.Else1) → addsUp (c .before .before .args .tally) ≡ true
+adding c =
+    let test = c .before .adds-up in
+    granted (test .result) (addsUp (c .before .before .args .tally)) (test .ensures) (c .if1 .left)
+
+-- behind the second all sums fit
+fitting : (c : tie.Else2) → let a = c .before .before .before .before .before .before .args in fits (added (a .tally) (a .entry)) ≡ true
 fitting c =
-    let tested = c .before in
-    let lost = tested .before in
-    let commands = lost .before .before in
-    let received = commands .before .before in
-    let a = received .before .before .args in
-    fit (a .tally) (received .one-if .result) (commands .one-if2 .result) (a .entry .included) (lost .lost-by .result)
-    (a .tally .last)
-    (sym (tested .fits2 .ensures) ∙ c .if1 .taken)
+    let a = c .before .before .before .before .before .before .args in
+    let test = c .before .fits2 in
+    granted (test .result) (fits (added (a .tally) (a .entry))) (test .ensures) (c .if2 .left)
 
-received-requires : tie.Need-received-requires
-received-requires c κs = search needs
+adds-up-requires : tie.Need-adds-up-requires
+adds-up-requires c κs = search needs
 
-one-if-requires : tie.Need-one-if-requires
-one-if-requires c κs = search needs
+refused-requires : tie.Need-refused-requires
+refused-requires c κs = search needs
 
-command-requires : tie.Need-command-requires
-command-requires c κs = search needs
-
-one-if-requires-2 : tie.Need-one-if-requires-2
-one-if-requires-2 c κs = search needs
-
-cast-octets : tie.Need-cast-octets
-cast-octets c = search needs
+returns : tie.Need-returns
+returns c =
+    let test = c .before .before .adds-up in
+    let a = c .before .before .before .args in
+    subst (UpdatedSays (a .tally) (updating (a .tally) (a .entry))) (sym (c .refused .ensures))
+    (update-broken (a .tally) (a .entry) (denied (test .result) (addsUp (a .tally)) (test .ensures) (c .before .if1 .taken)))
 
 lost-by-requires : tie.Need-lost-by-requires
 lost-by-requires c κs = search needs
 
+cast-truncated : tie.Need-cast-truncated
+cast-truncated c = search needs
+
 fits-requires : tie.Need-fits-requires
-fits-requires c κs = search needs
+fits-requires c κs =
+    let lost = c .before in
+    let a = lost .before .before .before .args in
+    (adding (lost .before), (lost .lost-by .ensures, counted (truncated (a .entry)) (truncated (a .entry)) refl))
 
-add-t10 : tie.Need-add-t10
-add-t10 c = omega (arith, fitting (c .before) .records)
-
-add-t11 : tie.Need-add-t11
-add-t11 c = omega (arith, fitting (c .before .before) .received)
-
-add-t12 : tie.Need-add-t12
-add-t12 c = omega (arith, fitting (c .before .before .before) .commands)
-
-add-t13 : tie.Need-add-t13
-add-t13 c = omega (arith, fitting (c .before .before .before .before) .octets)
-
-add-t14 : tie.Need-add-t14
-add-t14 c = omega (arith, fitting (c .before .before .before .before .before) .lost)
-
-returns : tie.Need-returns
-returns c =
-    let passed = c .before .before .before .before .before in
-    let tested = passed .before in
-    let lost = tested .before in
-    let commands = lost .before .before in
-    let received = commands .before .before in
-    let a = received .before .before .args in
-    update-done (a .tally) (a .entry) (received .one-if .result) (commands .one-if2 .result) (lost .lost-by .result)
-    (received .one-if .ensures ∙ ap oneIf (received .before .received .ensures))
-    (commands .one-if2 .ensures ∙ ap oneIf (commands .before .command .ensures))
-    (lost .lost-by .ensures)
-    (sym (tested .fits2 .ensures) ∙ passed .if1 .taken)
+refused-requires-2 : tie.Need-refused-requires-2
+refused-requires-2 c κs = search needs
 
 returns-2 : tie.Need-returns-2
 returns-2 c =
-    let tested = c .before in
-    let lost = tested .before in
-    let commands = lost .before .before in
-    let received = commands .before .before in
-    let a = received .before .before .args in
-    update-refused (a .tally) (a .entry) (received .one-if .result) (commands .one-if2 .result) (lost .lost-by .result)
-    (received .one-if .ensures ∙ ap oneIf (received .before .received .ensures))
-    (commands .one-if2 .ensures ∙ ap oneIf (commands .before .command .ensures))
-    (lost .lost-by .ensures)
-    (sym (tested .fits2 .ensures) ∙ c .if1 .left)
+    let test = c .before .before .fits2 in
+    let first = c .before .before .before .before .before in
+    let a = first .before .before .args in
+    subst (UpdatedSays (a .tally) (updating (a .tally) (a .entry))) (sym (c .refused2 .ensures))
+    (update-past (a .tally) (a .entry) (adding first)
+    (denied (test .result) (fits (added (a .tally) (a .entry))) (test .ensures) (c .before .if2 .taken)))
+
+added-requires : tie.Need-added-requires
+added-requires c κs =
+    let lost = c .before .before .before in
+    let a = lost .before .before .before .args in
+    (fitting c, (lost .lost-by .ensures, counted (truncated (a .entry)) (truncated (a .entry)) refl))
+
+returns-3 : tie.Need-returns-3
+returns-3 c =
+    let first = c .before .before .before .before .before in
+    let a = first .before .before .args in
+    subst (λ (t : Tally). UpdatedSays (a .tally) (updating (a .tally) (a .entry)) (record { tally = t; answer = TallyAnswer.Done }))
+    (sym (c .added .ensures))
+    (update-done (a .tally) (a .entry) (adding first) (fitting (c .before)))
 
 pub updated-spec : {M : Type 1} → statement M
 updated-spec =
     tie.close
     (tie.spec
-    received-requires
-    one-if-requires
-    command-requires
-    one-if-requires-2
-    cast-octets
-    lost-by-requires
-    fits-requires
-    add-t10
-    add-t11
-    add-t12
-    add-t13
-    add-t14
+    adds-up-requires
+    refused-requires
     returns
-    returns-2)
+    lost-by-requires
+    cast-truncated
+    fits-requires
+    refused-requires-2
+    returns-2
+    added-requires
+    returns-3)

@@ -6,14 +6,15 @@ use crate::btsnoop::made::{self, Entry};
 use crate::report::Hex;
 use crate::Session;
 use model::rows::VALUES;
-use model::tally::{Counted, Tally};
+use model::tally::{Counted, Tally, LAST_DROP_NUMBER};
 
 /// Reads a made capture with the library and tallies its records from an empty tally.
 pub fn capture(session: &mut Session) {
     let entries = made::entries(&mut session.prng);
     let file = made::file(1002, &entries).octets;
     let last_drop_number = session.prng.pick(&[0, 5, u64::MAX]);
-    let mut tally = [0, 0, 0, 0, 0, last_drop_number];
+    let mut tally = [0; 9];
+    tally[LAST_DROP_NUMBER] = last_drop_number;
     let read = read_entries(&file);
     let rows: Vec<[u64; 3]> = read
         .iter()
@@ -40,10 +41,12 @@ fn counted(entry: &Entry) -> Counted {
 
 /// Counts and sums over a whole list; an empty one leaves the last drop number.
 fn whole(entries: &[Entry], found: u64) -> Tally {
-    let flagged = |bit: u32| {
-        let with = entries.iter().filter(|entry| entry.fields.flags & bit != 0);
+    let count = |test: &dyn Fn(&Entry) -> bool| {
+        let with = entries.iter().filter(|entry| test(entry));
         with.count() as u64
     };
+    let flagged = |bit: u32| count(&|entry| entry.fields.flags & bit != 0);
+    let unflagged = |bit: u32| count(&|entry| entry.fields.flags & bit == 0);
     let octets = entries.iter().map(|entry| entry.packet.len() as u64).sum();
     let drops = |entry: &Entry| entry.fields.cumulative_drops;
     let pairs = entries.windows(2);
@@ -56,5 +59,8 @@ fn whole(entries: &[Entry], found: u64) -> Tally {
         octets,
         lost.sum(),
         last,
+        count(&|entry| entry.packet.len() < entry.fields.original_length as usize),
+        unflagged(1),
+        unflagged(2),
     ]
 }
