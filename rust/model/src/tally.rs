@@ -6,8 +6,16 @@ use crate::refusal::{Reason, Refusal};
 /// Records, received, commands, octets included, lost, last drop number (taken modulo 2^32), truncated, sent, data.
 pub type Tally = [u64; 9];
 
-/// The place of the last drop number, which is no sum.
+/// The places of these numbers. All but the last drop number are sums.
+pub const RECORDS: usize = 0;
+pub const RECEIVED: usize = 1;
+pub const COMMANDS: usize = 2;
+pub const OCTETS: usize = 3;
+pub const LOST: usize = 4;
 pub const LAST_DROP_NUMBER: usize = 5;
+pub const TRUNCATED: usize = 6;
+pub const SENT: usize = 7;
+pub const DATA: usize = 8;
 
 /// What the tally is given of a record.
 #[derive(Clone, Copy, Debug, PartialEq, Eq)]
@@ -21,7 +29,7 @@ pub struct Counted {
 /// What a record adds to each of the eight sums; to the last drop number, 0.
 pub fn added(tally: &Tally, record: &Counted) -> Tally {
     let bit = |place: u32| u64::from(record.flags) >> place & 1;
-    let lost = match tally[0] {
+    let lost = match tally[RECORDS] {
         0 => 0,
         _ => drops(tally[LAST_DROP_NUMBER] as u32, record.cumulative_drops),
     };
@@ -109,7 +117,7 @@ mod tests {
         assert_eq!(second, [2, 2, 2, 8, 11, 5, 2, 0, 0]);
         assert_eq!(after(second, record(5)), [3, 3, 3, 12, 11, 5, 3, 0, 0]);
         let back = after(second, record(4));
-        assert_eq!(back[4], 11 + u64::from(u32::MAX));
+        assert_eq!(back[LOST], 11 + u64::from(u32::MAX));
     }
 
     #[test]
@@ -150,7 +158,7 @@ mod tests {
                 included_length,
                 ..record(0)
             };
-            assert_eq!(after(EMPTY, record)[6], truncated);
+            assert_eq!(after(EMPTY, record)[TRUNCATED], truncated);
         }
     }
 
@@ -175,15 +183,15 @@ mod tests {
             let [received, commands, sent, data] = parts.map(|part| part as u64 * MOST);
             let full = [MOST, received, commands, MOST, MOST, 5, MOST, sent, data];
             assert_eq!(after(found, record), full);
-            for sum in [3, 4, 6] {
+            for sum in [OCTETS, LOST, TRUNCATED] {
                 let mut found = found;
                 found[sum] += 1;
                 refuses(Reason::TallySum, found, record);
             }
             let mut found = full;
-            found[3] = 0;
-            found[4] = 0;
-            found[6] = 0;
+            found[OCTETS] = 0;
+            found[LOST] = 0;
+            found[TRUNCATED] = 0;
             refuses(Reason::TallySum, found, record);
         }
     }
@@ -202,7 +210,14 @@ mod tests {
 
     #[test]
     fn either_sum_broken() {
-        for (place, by) in [(0, 1), (0, MOST), (1, 1), (2, 1), (7, MOST), (8, MOST)] {
+        for (place, by) in [
+            (RECORDS, 1),
+            (RECORDS, MOST),
+            (RECEIVED, 1),
+            (COMMANDS, 1),
+            (SENT, MOST),
+            (DATA, MOST),
+        ] {
             let mut found = THREE;
             found[place] = found[place].wrapping_add(by);
             refuses(Reason::TallyBroken, found, record(5));

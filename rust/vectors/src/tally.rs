@@ -2,21 +2,14 @@
 
 use crate::question::{decimal, Question};
 use model::rows::done;
-use model::tally::{self, Counted, Tally, LAST_DROP_NUMBER};
+use model::tally::{self, Counted, Tally};
+use model::tally::{
+    COMMANDS, DATA, LAST_DROP_NUMBER, LOST, OCTETS, RECEIVED, RECORDS, SENT, TRUNCATED,
+};
 
 const TALLY: u8 = 18;
 
 const MOST: u64 = u64::MAX;
-
-/// The places of the tally's sums.
-const RECORDS: usize = 0;
-const RECEIVED: usize = 1;
-const COMMANDS: usize = 2;
-const OCTETS: usize = 3;
-const LOST: usize = 4;
-const TRUNCATED: usize = 6;
-const SENT: usize = 7;
-const DATA: usize = 8;
 
 /// Numbers that are all different, and add up.
 const ALL_DIFFERENT: Tally = [30, 20, 17, 40, 50, 4, 6, 10, 13];
@@ -132,7 +125,7 @@ fn lengths(list: &mut Vec<Question>) {
     }
 }
 
-/// The tally to which a received or sent record just fits, a command or data: each sum then is at the most.
+/// The tally whose sums a record with these flags brings to the most.
 fn just_fitting(flags: u32) -> Tally {
     let all = MOST - 1;
     let [received, commands] = [flags & 1, flags >> 1 & 1].map(|bit| all * u64::from(bit));

@@ -1,11 +1,11 @@
 //! Asks library and model the same question and compares the answers.
 
 use super::ffi;
-use super::made::{PARTS, RECORDS};
+use super::made::PARTS;
 use crate::lent::Lent;
 use crate::Session;
 use model::rows::done;
-use model::tally::{self, Counted, Tally};
+use model::tally::{self, Counted, Tally, RECORDS};
 
 /// Record added to a tally.
 pub fn add(session: &mut Session, tally: &Tally, record: &Counted) {

@@ -1,10 +1,10 @@
 //! Questions at the exact ends of every range, asked once.
 
 use super::ask;
-use super::made::{put_parts, stand, PARTS, RECORDS, UNBOUND};
+use super::made::{put_parts, stand, PARTS, SUMMED, UNBOUND};
 use crate::btsnoop::made::WORDS;
 use crate::Session;
-use model::tally::{Counted, Tally, LAST_DROP_NUMBER};
+use model::tally::{Counted, Tally, LAST_DROP_NUMBER, RECORDS, TRUNCATED};
 
 const MOST: u64 = u64::MAX;
 
@@ -104,7 +104,7 @@ fn lengths(session: &mut Session) {
             ask::add(session, &[0; 9], &record);
             for truncated in [5, MOST - 1, MOST] {
                 let mut tally = TALLY;
-                tally[6] = truncated;
+                tally[TRUNCATED] = truncated;
                 ask::add(session, &tally, &record);
             }
         }
@@ -178,15 +178,14 @@ fn roomy_and_full(record: &Counted) -> Vec<Tally> {
 
 /// One number of the two sums off by a little or much, and then two.
 fn broken(session: &mut Session, record: &Counted) {
-    let places = [RECORDS, 1, 2, 7, 8];
     for found in roomy_and_full(record) {
         for tally in whole_parts(&found) {
-            for place in places {
+            for place in SUMMED {
                 for step in [1, 2, 1 << 63, MOST - 1, MOST] {
                     let mut tally = tally;
                     tally[place] = tally[place].wrapping_add(step);
                     ask::add(session, &tally, record);
-                    for other in places {
+                    for other in SUMMED {
                         let mut tally = tally;
                         tally[other] = tally[other].wrapping_sub(step);
                         ask::add(session, &tally, record);

@@ -1,17 +1,20 @@
 //! Records, and tallies that they fit into or pass, or whose sums are broken.
 
 use crate::btsnoop::made::word;
-use model::tally::{added, Counted, Tally, LAST_DROP_NUMBER};
+use model::tally::{added, Counted, Tally};
+use model::tally::{
+    COMMANDS, DATA, LAST_DROP_NUMBER, LOST, OCTETS, RECEIVED, RECORDS, SENT, TRUNCATED,
+};
 use random::prng::Prng;
 
-/// The place of records in a tally.
-pub const RECORDS: usize = 0;
+/// The sums that nothing else bounds.
+pub const UNBOUND: [usize; 4] = [RECORDS, OCTETS, LOST, TRUNCATED];
 
-/// The places of the sums that nothing else bounds: records, octets included, lost, truncated.
-pub const UNBOUND: [usize; 4] = [RECORDS, 3, 4, 6];
+/// The numbers that add up to records, two and two.
+pub const PARTS: [[usize; 2]; 2] = [[SENT, RECEIVED], [COMMANDS, DATA]];
 
-/// The places of the numbers that add up to records: sent and received, commands and data.
-pub const PARTS: [[usize; 2]; 2] = [[7, 1], [2, 8]];
+/// All numbers of the two sums.
+pub const SUMMED: [usize; 5] = [RECORDS, RECEIVED, COMMANDS, SENT, DATA];
 
 /// Any record: an included length above the original length is not judged.
 pub fn record(prng: &mut Prng) -> Counted {
@@ -111,7 +114,7 @@ pub fn put_parts(tally: &mut Tally, [first, second]: [usize; 2], part: u64) {
 /// Changes one or two of the numbers of the two sums.
 fn change(prng: &mut Prng, tally: &mut Tally) {
     for _ in 0..=prng.below(2) {
-        let place = prng.pick(&[RECORDS, 1, 2, 7, 8]);
+        let place = prng.pick(&SUMMED);
         let any = prng.bits();
         let step = prng.pick(&[1, u64::MAX, 1 << 63, any]);
         tally[place] = tally[place].wrapping_add(step);
@@ -124,7 +127,8 @@ fn wrap(prng: &mut Prng, tally: &mut Tally) {
     let pairs = prng.pick(&[&PARTS[..1], &PARTS[1..], &PARTS]);
     for parts in pairs {
         if room > 0 {
-            let above = prng.pick(&[1, room]).max(prng.bits() % room);
+            let any = 1 + prng.bits() % room;
+            let above = prng.pick(&[1, room, any, any]);
             put_parts(tally, *parts, tally[RECORDS] + above);
         }
     }
