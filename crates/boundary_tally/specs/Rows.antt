@@ -1,7 +1,6 @@
 -- The C boundary of the tally: the nine numbers that a tally is lent as, and the struct that an update's answer is
 -- returned as. Kind 0 is a refusal, 1 an update done.
-use Prim.Native.Nat.{ℕ, _%_, _^_, _<_}
-use mathlib.Core.Path.{_≡_}
+use Prim.Native.Nat.{ℕ, _%_, _^_}
 use mathlib.Core.List.{List, [], _∷_}
 use lib.ListN.{getD}
 use Rattle.refusals.specs.Refusals.{Answer, refused, given}
@@ -38,10 +37,6 @@ numbersOf t =
     ∷ t .sent
     ∷ t .«data»
     ∷ []
-
--- a tally that is lent as numbers is the one that they are taken for when they are handed in again. Proof: proofs/Rows.antt
-abbrev pub HandedInAgain : Type 0
-HandedInAgain = (t : Tally) → t .last < 2 ^ 32 → tallyOf (numbersOf t) ≡ t
 
 -- zalghimo_btsnoop_tally: its parameters, as what a tally is given of a record
 abbrev pub entryOf : (original included flags drops : ℕ) → Entry

@@ -135,16 +135,16 @@ fit t e =
       «data» = ltb-true (t .«data») (2 ^ 64) (eighth .1);
     }
 
--- a test as a number is 1 where it holds
-pub counted : (answer test : Bool) → answer ≡ test → boolByte answer ≡ oneIf test
-counted answer test is = go answer ∙ ap oneIf is
+-- a test cast to a number is 1 where it holds
+pub cast-is : (answer test : Bool) → answer ≡ test → boolByte answer ≡ oneIf test
+cast-is answer test is = go answer ∙ ap oneIf is
   where
     go : (z : Bool) → boolByte z ≡ oneIf z
     go true = refl
     go false = refl
 
-pub counted-not : (answer test : Bool) → answer ≡ test → boolByte (not answer) ≡ oneIf (not test)
-counted-not answer test is = counted (not answer) (not test) (ap not is)
+pub cast-not : (answer test : Bool) → answer ≡ test → boolByte (not answer) ≡ oneIf (not test)
+cast-not answer test is = cast-is (not answer) (not test) (ap not is)
 
 -- a sum that stays below 2^64, by what is added
 pub sum-held : (sum more n : ℕ) → n ≡ more → sum + more < 2 ^ 64 → Held w64 (sum + n)

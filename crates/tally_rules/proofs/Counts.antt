@@ -21,7 +21,7 @@ use Rattle.tally_rules.proofs.Orders.{update-exactly}
 use Rattle.tally_rules.specs.Counts.{emptyTally, unlessRefused, counted, tallied, sumOf, differencesFrom, differences, lastDrops, BothSums, TallyCounts, SumsHold, Never23}
 
 -- a tally that an update gives has the record added
-given-added : (t : Tally) (e : Entry) (u : Tally) → updating t e ≡ given u → u ≡ added t e
+pub given-added : (t : Tally) (e : Entry) (u : Tally) → updating t e ≡ given u → u ≡ added t e
 given-added t e u h =
     let unbroken = update-exactly t e .otherwise (λ breaks. not-refused (sym h ∙ update-exactly t e .here .1 breaks)) in
     let is = unbroken .otherwise (λ passes. not-refused (sym h ∙ unbroken .here .1 passes)) in

@@ -31,7 +31,7 @@ abbrev pub tallied : List Entry → Tally → Tally
 tallied [] t = t
 tallied (e ∷ es) t = tallied es (afterUpdate t (updating t e))
 
--- the records of a list without the first, or with it where its update is not refused
+-- a record before others, unless its update is refused
 abbrev pub unlessRefused : Answer Tally → Entry → List Entry → List Entry
 unlessRefused (refused n q) e es = es
 unlessRefused (given t) e es = e ∷ es

@@ -5,7 +5,7 @@ use mathlib.Core.Bool.{not}
 use mir.Val.{boolByte}
 use Rattle.btsnoop_rules.specs.Record.{received, command}
 use Rattle.tally_rules.specs.Tally.{oneIf, truncated, sent, isData, lostBy, added}
-use Rattle.tally.proofs.TallyLaws.{counted, counted-not, sum-held, Fits, fit, by-numbers}
+use Rattle.tally.proofs.TallyLaws.{cast-is, cast-not, sum-held, Fits, fit, by-numbers}
 use borrow.Author.Needs.{needs}
 use Rattle.tally.proofs.added.Statement.{statement}
 use Rattle.tally.proofs.added.Tie as tie
@@ -34,7 +34,7 @@ add-t9 c =
     let start = flag .before in
     let a = start .args in
     sum-held (a .tally .received) (oneIf (received (a .entry .flags))) (boolByte (flag .received .result))
-    (counted (flag .received .result) (received (a .entry .flags)) (flag .received .ensures)) (fitting start .received)
+    (cast-is (flag .received .result) (received (a .entry .flags)) (flag .received .ensures)) (fitting start .received)
 
 cast-t10 : tie.Need-cast-t10
 cast-t10 c = search needs
@@ -45,7 +45,7 @@ add-t11 c =
     let start = flag .before .before in
     let a = start .args in
     sum-held (a .tally .commands) (oneIf (command (a .entry .flags))) (boolByte (flag .command .result))
-    (counted (flag .command .result) (command (a .entry .flags)) (flag .command .ensures)) (fitting start .commands)
+    (cast-is (flag .command .result) (command (a .entry .flags)) (flag .command .ensures)) (fitting start .commands)
 
 cast-t12 : tie.Need-cast-t12
 cast-t12 c = search needs
@@ -77,7 +77,7 @@ add-t18 c =
     let start = flag .before in
     let a = start .args in
     sum-held (a .tally .sent) (oneIf (sent (a .entry .flags))) (boolByte (not (flag .received .result)))
-    (counted-not (flag .received .result) (received (a .entry .flags)) (flag .received .ensures)) (fitting start .sent)
+    (cast-not (flag .received .result) (received (a .entry .flags)) (flag .received .ensures)) (fitting start .sent)
 
 cast-t20 : tie.Need-cast-t20
 cast-t20 c = search needs
@@ -88,7 +88,7 @@ add-t21 c =
     let start = flag .before .before in
     let a = start .args in
     sum-held (a .tally .«data») (oneIf (isData (a .entry .flags))) (boolByte (not (flag .command .result)))
-    (counted-not (flag .command .result) (command (a .entry .flags)) (flag .command .ensures)) (fitting start .«data»)
+    (cast-not (flag .command .result) (command (a .entry .flags)) (flag .command .ensures)) (fitting start .«data»)
 
 returns : tie.Need-returns
 returns c =
@@ -101,8 +101,8 @@ returns c =
     let r-is = received-flag .received .ensures in
     let k-is = command-flag .command .ensures in
     by-numbers (a .tally) (a .entry) (boolByte r) (boolByte k) (a .lost) (a .truncated) (boolByte (not r)) (boolByte (not k))
-    (counted r (received (a .entry .flags)) r-is) (counted k (command (a .entry .flags)) k-is) (start .pre .1 .0) (start .pre .1 .1)
-    (counted-not r (received (a .entry .flags)) r-is) (counted-not k (command (a .entry .flags)) k-is)
+    (cast-is r (received (a .entry .flags)) r-is) (cast-is k (command (a .entry .flags)) k-is) (start .pre .1 .0) (start .pre .1 .1)
+    (cast-not r (received (a .entry .flags)) r-is) (cast-not k (command (a .entry .flags)) k-is)
 
 pub added-spec : {M : Type 1} → statement M
 added-spec =

@@ -6,7 +6,7 @@ use Rattle.tally_rules.specs.declared.Tally.{Tally}
 use Rattle.tally_rules.specs.Tally.{truncated, added, addsUp, fits, updating}
 use Rattle.tally.specs.declared.TallyAnswer.{TallyAnswer}
 use Rattle.tally.specs.Says.{UpdatedSays}
-use Rattle.tally.proofs.TallyLaws.{denied, granted, counted, update-broken, update-past, update-done}
+use Rattle.tally.proofs.TallyLaws.{denied, granted, cast-is, update-broken, update-past, update-done}
 use borrow.Author.Needs.{needs}
 use Rattle.tally.proofs.updated.Statement.{statement}
 use Rattle.tally.proofs.updated.Tie as tie
@@ -47,7 +47,7 @@ fits-requires : tie.Need-fits-requires
 fits-requires c κs =
     let lost = c .before in
     let a = lost .before .before .before .args in
-    (adding (lost .before), (lost .lost-by .ensures, counted (truncated (a .entry)) (truncated (a .entry)) refl))
+    (adding (lost .before), (lost .lost-by .ensures, cast-is (truncated (a .entry)) (truncated (a .entry)) refl))
 
 refused-requires-2 : tie.Need-refused-requires-2
 refused-requires-2 c κs = search needs
@@ -65,7 +65,7 @@ added-requires : tie.Need-added-requires
 added-requires c κs =
     let lost = c .before .before .before in
     let a = lost .before .before .before .args in
-    (fitting c, (lost .lost-by .ensures, counted (truncated (a .entry)) (truncated (a .entry)) refl))
+    (fitting c, (lost .lost-by .ensures, cast-is (truncated (a .entry)) (truncated (a .entry)) refl))
 
 returns-3 : tie.Need-returns-3
 returns-3 c =
