@@ -3,7 +3,8 @@
  *   header   pad octet, how many presence words, place of the frame
  *   field    word, bit, published name, start, size
  *   end      how many fields
- *   stop     word and bit that the edition does not know, its published name
+ *   stop     word and bit that the edition does not know, its published name; "continued" where the word has none, since
+ *            it goes on behind the bits of a word without bit 29
  *   refused  refusal number, place, the refusal in words
  *
  * Exits 0 at the end or a stop, 1 at a refusal, and 2 for wrong arguments, a file that cannot be read, or output that
@@ -14,6 +15,17 @@
 #include "whole_file.h"
 #include "zalghimo.h"
 #include "zalghimo_words.h"
+
+/* What a stop's bit is called: the bits of a continued word have no published names, but for bit 30. */
+static const char *stop_name(const uint8_t *octets, size_t length, zalghimo_radiotap header)
+{
+    if (header.word > 0 && header.bit != 30) {
+        zalghimo_word before = zalghimo_radiotap_word(octets, length, header.word - 1);
+        if (!(before.value >> 29 & 1))
+            return "continued";
+    }
+    return zalghimo_radiotap_name(header.bit);
+}
 
 /* Word, bit, start and size of each field. */
 static uint64_t fields[4 * ZALGHIMO_RADIOTAP_MOST_FIELDS];
@@ -34,7 +46,7 @@ static int list(const uint8_t *octets, size_t length, uint32_t edition)
                zalghimo_radiotap_name(field[1]), field[2], field[3]);
     }
     if (header.kind == ZALGHIMO_STOPPED)
-        printf("stop\t%" PRIu64 "\t%" PRIu64 "\t%s\n", header.word, header.bit, zalghimo_radiotap_name(header.bit));
+        printf("stop\t%" PRIu64 "\t%" PRIu64 "\t%s\n", header.word, header.bit, stop_name(octets, length, header));
     else
         printf("end\t%" PRIu64 "\n", header.fields);
     return 0;

@@ -274,9 +274,12 @@ zalghimo_written zalghimo_le_write(uint8_t *output, size_t length, size_t place,
 
 /* ---- Radiotap ----
  * An edition says which bits of a presence word have a known field: edition 1 knows bits 0 to 13, edition 2 also 14 to
- * 17, edition 3 also 19 to 21; edition 0 asks for the default, 1. Words and fields are numbered from 0, and every word
- * numbers its bits from 0 again. Bits 29 and 31 carry no field; another bit that the edition does not know stops the
- * reading. Bits 5, 6 and 10 are signed dBm. zalghimo_words.h has the published name of each bit.
+ * 17, edition 3 also 19 to 21; edition 0 asks for the default, 1. Words and fields are numbered from 0.
+ * A word numbers its bits from 0 where it is the first, or where the word before it has bit 29 set. Another word is
+ * continued: its bits go on past the table, and no edition knows a field of it. Bits 29 and 31 of a word carry no field;
+ * another set bit that the edition does not know stops the reading. Before request W-205 every word numbered its bits
+ * from 0.
+ * Bits 5, 6 and 10 are signed dBm. zalghimo_words.h has the published name of each bit.
  * A header is judged whole first: one refused at a field shows none. Octets left before its length are allowed.
  *
  * A field starts at the next multiple of its alignment, counted from the header's start. In octets:

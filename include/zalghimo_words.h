@@ -37,7 +37,7 @@ static inline const char *zalghimo_refusal_words(uint64_t number)
     }
 }
 
-/* The published name of a radiotap presence bit. */
+/* The published name of a radiotap presence bit, in a word that numbers its bits from 0. */
 static inline const char *zalghimo_radiotap_name(uint64_t bit)
 {
     static const char *const names[] = {

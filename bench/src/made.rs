@@ -1,11 +1,14 @@
 //! Inputs made from a seed: captures, radiotap headers and LE packets.
 
 use crate::plain::btsnoop::{record, write_header, write_record, Entry};
-use crate::plain::radiotap::ROWS;
+use crate::plain::radiotap::{RESET, ROWS};
 use random::prng::Prng;
 
 /// The longest packet of a capture.
 const LONGEST_PACKET: usize = 255;
+
+/// Another word follows, which starts again.
+const ANOTHER: u32 = 1 << 31 | RESET;
 
 /// 1 January 2000 in the time field.
 const YEAR_2000: i64 = 0x00E0_3AB4_4A67_6000;
@@ -62,11 +65,12 @@ pub fn entries(capture: &[u8]) -> Vec<Entry<'_>> {
     entries
 }
 
-/// A radiotap header of these words, each but the last calling for another, of the length that its fields need.
+/// A radiotap header of these words, each but the last calling for another, which starts again, of the length that its
+/// fields need.
 pub fn header(words: &[u32]) -> Vec<u8> {
     let mut octets = vec![0; 4];
     for (index, word) in words.iter().enumerate() {
-        let another = u32::from(index + 1 < words.len()) << 31;
+        let another = if index + 1 < words.len() { ANOTHER } else { 0 };
         octets.extend((word | another).to_le_bytes());
     }
     let mut at = octets.len();

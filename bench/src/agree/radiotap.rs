@@ -51,6 +51,14 @@ pub fn input(input: &[u8], edition: u32, room: usize) -> library::Radiotap {
     answer
 }
 
+/// Sets or clears bit 29 of a presence word, or a bit of what stands in its place.
+fn change_reset(prng: &mut Prng, octets: &mut [u8]) {
+    let highest = 7 + 4 * prng.below(8);
+    if let Some(octet) = octets.get_mut(highest) {
+        *octet ^= 1 << 5;
+    }
+}
+
 /// All answer headers alike, damaged ones mostly.
 pub fn damaged(prng: &mut Prng) {
     for _ in 0..DAMAGED {
@@ -58,6 +66,9 @@ pub fn damaged(prng: &mut Prng) {
         let mut octets = made::mixed_header(prng, known);
         if prng.one_in(4) {
             octets[1] = prng.bits() as u8;
+        }
+        if prng.one_in(2) {
+            change_reset(prng, &mut octets);
         }
         if prng.one_in(4) {
             let length = octets.len() - prng.below(9).min(octets.len());

@@ -1,6 +1,6 @@
 //! Radiotap by an iterator that tests every bit of every word, in the manner of the common C iterator.
 
-use super::radiotap::{head, Head, Reading, Stop, ROWS};
+use super::radiotap::{head, Head, Reading, Stop, RESET, ROWS};
 use super::{refused, Refusal};
 
 /// What the next call meets.
@@ -17,6 +17,8 @@ struct Fields<'a> {
     word: usize,
     shifter: u32,
     bit: u32,
+    /// The bits that are known in the word.
+    known: u32,
     /// Where the last field ended.
     at: usize,
 }
@@ -27,6 +29,7 @@ impl<'a> Fields<'a> {
             word: 0,
             shifter: u32::from_le_bytes(head.words[0]),
             bit: 0,
+            known: head.known,
             at: 4 + 4 * head.words.len(),
             head,
         }
@@ -36,6 +39,12 @@ impl<'a> Fields<'a> {
     fn next_word(&mut self) -> bool {
         let Some(octets) = self.head.words.get(self.word + 1) else {
             return false;
+        };
+        let before = u32::from_le_bytes(self.head.words[self.word]);
+        self.known = if before & RESET == 0 {
+            0
+        } else {
+            self.head.known
         };
         self.word += 1;
         self.shifter = u32::from_le_bytes(*octets);
@@ -65,7 +74,7 @@ impl<'a> Fields<'a> {
                 31 if !self.next_word() => return Ok(Met::End),
                 29 | 31 => {}
                 _ if !set => {}
-                _ if self.head.known >> bit & 1 == 0 => {
+                _ if self.known >> bit & 1 == 0 => {
                     let word = self.word;
                     return Ok(Met::Stop(Stop { word, bit }));
                 }

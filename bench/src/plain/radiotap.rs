@@ -34,8 +34,11 @@ pub const ROWS: [Row; 32] = {
 /// The bits that each edition knows, edition 0 asking for edition 1.
 pub const KNOWN: [u32; 4] = [0x3FFF, 0x3FFF, 0x0003_FFFF, 0x003B_FFFF];
 
+/// The bit that lets the next word number its bits from 0 again.
+pub const RESET: u32 = 1 << 29;
+
 /// The bits that carry no field.
-const NO_FIELD: u32 = 1 << 29 | 1 << 31;
+const NO_FIELD: u32 = RESET | 1 << 31;
 
 /// Word and bit where a reading stopped.
 #[derive(Clone, Copy, Debug)]
@@ -111,8 +114,16 @@ fn walk(
 ) -> Result<(usize, Option<Stop>), Refusal> {
     let length = head.octets.len();
     let (mut at, mut fields) = (4 + 4 * head.words.len(), 0);
+    let mut before = RESET;
     for (word, octets) in head.words.iter().enumerate() {
-        let set = u32::from_le_bytes(*octets) & !NO_FIELD;
+        let presence = u32::from_le_bytes(*octets);
+        let set = presence & !NO_FIELD;
+        // A continued word has no known field.
+        if before & RESET == 0 && set != 0 {
+            let bit = set.trailing_zeros();
+            return Ok((fields, Some(Stop { word, bit })));
+        }
+        before = presence;
         let unknown = set & !head.known;
         // The bits below the lowest unknown one, all where there is none.
         let mut shown = set & (unknown & unknown.wrapping_neg()).wrapping_sub(1);

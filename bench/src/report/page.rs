@@ -23,7 +23,8 @@ the call puts them.
   all octets of the stream; packet octets are handed out as parts of the chunk, and neither reads them.
 - *read* and *fields* of radiotap: a header judged whole, and the list of its fields besides. *Bit by bit* is an
   iterator in plain Rust that tests all 32 bits of a word, in the manner of the common C iterator. Headers are read in
-  edition 3. The mixed ones have one to eight words and any known fields, and their fields are the mean.
+  edition 3; each word but the last lets the next one start again. The mixed ones have one to eight words and any known
+  fields, and their fields are the mean.
 - *LE read*: a pseudo-header with any flags that are accepted.
 
 ![Costs: per record by input size, per radiotap header by presence words, per record of a stream by chunk size]({PLOT})

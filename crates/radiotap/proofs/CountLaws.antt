@@ -1,9 +1,11 @@
 -- What a walk that counts the fields has found so far and where it stands, word by word and bit by bit.
 -- Assumes nothing.
-use Prim.Native.Nat.{ℕ, _+_, _-_, _*_, _/_, _%_, _^_, _≤_, _<_}
-use mathlib.Core.Path.{_≡_, refl, sym, ap, _∙_, subst₂}
+use Prim.Native.Nat.{ℕ, suc, _+_, _-_, _*_, _/_, _%_, _^_, _≤_, _<_}
+use mathlib.Core.Path.{_≡_, refl, sym, ap, _∙_, subst, subst₂}
+use mathlib.Core.Bool.{Bool, true, false, not, _&&_}
 use mathlib.Core.List.{List}
 use native.Mathlib.Omega.{arith}
+use native.Mathlib.Nat.{zero-add}
 use lib.ListN.{length, getD}
 use lib.Dec.{ltb}
 use lib.Bits.{bitAnd, bitOr}
@@ -14,26 +16,36 @@ use Rattle.octets.specs.Parts.{part}
 use Rattle.refusals.specs.Refusals.{given}
 use Rattle.radiotap_rules.specs.declared.Head.{Head}
 use Rattle.radiotap_rules.specs.declared.Cursor.{Cursor}
+use Rattle.radiotap_rules.specs.Rules.{knows}
 use Rattle.radiotap_rules.specs.Table.{ourRules}
-use Rattle.radiotap_rules.specs.Reading.{fieldPast, bitSet, mostWords, wordBits, wordAt, Field, ended, stopped}
+use Rattle.radiotap_rules.specs.Reading.{fieldPast, presenceWords, bitSet, firstNumber, mostWords, wordBits, wordAt, Field, ended, stopped}
 use Rattle.radiotap_rules.specs.Steps.{headAt, firstCursor, wordsOf, refusedStep, over, met, stepOf}
+use Rattle.radiotap_rules.proofs.Numbering.{starts-at-0, goes-on}
 use Rattle.radiotap_rules.proofs.Words.{words-few, words-inside, calls-where-followed, words-for}
 use Rattle.radiotap_rules.proofs.Places.{length-told}
 use Rattle.radiotap_rules.proofs.Steps.{headed}
 use Rattle.radiotap_table.specs.declared.Span.{Span}
 use Rattle.radiotap_table.specs.Says.{SpannedAs}
-use Rattle.radiotap_bits.specs.Bits.{KnownBits, Carries}
-use Rattle.radiotap_bits.proofs.SetLaws.{trailing-below}
+use Rattle.radiotap_bits.specs.Bits.{KnownBits, carriesField, Carries, Continues}
+use Rattle.radiotap_bits.proofs.SetLaws.{none-set, trailing-below}
 use Rattle.radiotap_step.proofs.StepLaws.{Reached, starts, ends}
-use Rattle.radiotap_step.proofs.WordLaws.{Standing, opens, stops-here, passes-word, bit-small, starts-near, refuses-past, behind, meets-field, stands-behind}
+use Rattle.radiotap_step.proofs.WordLaws.{KnownIn, Standing, opens, stops-here, passes-word, stops-continued, bit-small, starts-near, refuses-past, behind, meets-field, stands-behind}
 use Rattle.radiotap.proofs.WalkLaws.{SoFar, begins, countable, passes}
+
+-- the header has this word at an index
+abbrev pub Held : List ℕ → (size index word : ℕ) → Type 0
+Held s size index word = (ws : List ℕ) → presenceWords s size ≡ given ws → getD ws index 0 ≡ word
+
+-- of its bits that carry a field, the edition knows these
+abbrev pub KnownAt : (edition : ℕ) → List ℕ → (size index known : ℕ) → Type 0
+KnownAt edition s size index known = (ws : List ℕ) → presenceWords s size ≡ given ws → KnownIn edition ws index known
 
 -- so many fields are found up to a cursor, whichever of them is kept, and the walk is in one of so many words, its last place
 -- that is not free not far behind the length
 pub record Found (edition : ℕ) (s : List ℕ) (known size words : ℕ) (c : Cursor) (index last fields : ℕ) : Type 0 where
   pub kept : Field
   pub found : SoFar ourRules edition s size 0 c fields kept
-  pub knowing : KnownBits edition known
+  pub knowing : KnownAt edition s size index known
   pub count : c .words ≡ words
   pub more : index < words
   pub room : last ≤ size + 35
@@ -50,6 +62,13 @@ pub record Counting (edition : ℕ) (s : List ℕ) (known size words : ℕ) (c :
   pub sofar : Found edition s known size words c index last fields
   pub stands : Standing edition s known c index left stop last
 
+set-before : (t u : Bool) → (not t && u) ≡ false → u ≡ true → t ≡ true
+set-before true u e h = refl
+set-before false u e h = absurd (let z : _≡_ {A = ℕ} 0 1 = cc in omega arith)
+
+given-same : {A : Type 0} {x y : A} → given x ≡ given y → x ≡ y
+given-same e = cc
+
 module _ (edition : ℕ) (s : List ℕ) (known : ℕ) where
   -- at the first word
   pub word-first : (h : Head) → headAt s ≡ given h → KnownBits edition known
@@ -62,7 +81,7 @@ module _ (edition : ℕ) (s : List ℕ) (known : ℕ) where
         sofar = record {
           kept = _;
           found = begins ourRules edition s 0 h e;
-          knowing = knowing;
+          knowing = λ ws same bit h carries. knowing bit h ∙ ap (knows ourRules edition) (sym (zero-add bit));
           count = refl;
           more = omega (arith, there .count, few .0);
           room = omega (arith, there .count, few .1);
@@ -85,18 +104,31 @@ module _ (edition : ℕ) (s : List ℕ) (known : ℕ) where
     pub here-more : index < c .words
     here-more = omega (arith, f .count, f .more)
 
+    -- the words as the cursor has them are the header's
+    own-words : wordsOf s c ≡ f .found .ws
+    own-words = let g = f .found in words-for s size (g .ws) (g .words) c (g .stands .count) (g .stands .bits)
+
+    pub known-here : KnownIn edition (wordsOf s c) index known
+    known-here =
+        subst (λ (ws : List ℕ). KnownIn edition ws index known) (sym own-words) (f .knowing (f .found .ws) (f .found .words))
+
   module _ {size words : ℕ} {c : Cursor} {index word last fields : ℕ} (w : AtWord edition s known size words c index word last fields) where
-    -- the word calls for another where one follows
+    -- the word is the header's
+    pub held : Held s size index word
+    held ws same =
+        let f = w .sofar in
+        let here : wordAt (wordBits * index) ≡ index = omega arith in
+        sym (ap (λ (ws : List ℕ). getD ws index 0) (own-words f ∙ given-same (sym (f .found .words) ∙ same)))
+        ∙ sym (ap (λ (k : ℕ). getD (wordsOf s c) k 0) here)
+        ∙ w .reached .word (omega (arith, f .more, f .count))
+
+    -- it calls for another where one follows
     calls : bitSet word 31 ≡ ltb (index + 1) words
     calls =
         let f = w .sofar in
         let g = f .found in
-        let here : wordAt (wordBits * index) ≡ index = omega arith in
         let count : length (g .ws) ≡ words = sym (g .stands .count) ∙ f .count in
-        ap (λ (k : ℕ). bitSet k 31)
-        (sym (w .reached .word (omega (arith, f .more, f .count)))
-        ∙ ap (λ (k : ℕ). getD (wordsOf s c) k 0) here
-        ∙ ap (λ (ws : List ℕ). getD ws index 0) (words-for s size (g .ws) (g .words) c (g .stands .count) (g .stands .bits)))
+        ap (λ (k : ℕ). bitSet k 31) (sym (held (g .ws) (g .words)))
         ∙ calls-where-followed s size (g .ws) (g .words) index (omega (arith, f .more))
         ∙ ap (ltb (index + 1)) count
 
@@ -126,48 +158,86 @@ module _ (edition : ℕ) (s : List ℕ) (known : ℕ) where
   module _ {size words : ℕ} {c : Cursor} {index left stop last fields : ℕ} (w : Counting edition s known size words c index left stop last fields) where
     -- where nothing is left of the word, the step stops, ends behind the last word, or goes on in the next one
     pub counts-stop : left ≡ 0 → stop < wordBits → stepOf ourRules edition s c ≡ over (stopped index stop)
-    counts-stop none inside = stops-here edition s known (w .sofar .knowing) (w .stands) (here-more (w .sofar)) none inside
+    counts-stop none inside = stops-here edition s known (known-here (w .sofar)) (w .stands) (here-more (w .sofar)) none inside
 
     pub counts-end : left ≡ 0 → wordBits ≤ stop → index + 1 ≡ words → stepOf ourRules edition s c ≡ over ended
     counts-end none past last-word =
-        ends ourRules edition s c (passes-word edition s known (w .sofar .knowing) (w .stands) (here-more (w .sofar)) none past)
+        ends ourRules edition s c (passes-word edition s known (known-here (w .sofar)) (w .stands) (here-more (w .sofar)) none past)
         (omega (arith, w .sofar .count))
 
-    pub counts-word : left ≡ 0 → wordBits ≤ stop → index + 1 < words → {word : ℕ} → word ≡ numberAt little 4 s (4 + 4 * (index + 1))
-        → AtWord edition s known size words c (index + 1) word last fields
-    counts-word none past more told =
-        let before = w .sofar in
-        record {
-          sofar = record {
-            kept = before .kept;
-            found = before .found;
-            knowing = before .knowing;
-            count = before .count;
-            more = more;
-            room = before .room;
-            inside = before .inside;
-          };
-          reached =
-              subst₂ (Reached ourRules edition s c) (omega arith) (sym told)
-              (passes-word edition s known (before .knowing) (w .stands) (here-more before) none past);
-          free = w .stands .free;
-        }
+    -- which is the one at its place
+    module _ (none : left ≡ 0) (past : wordBits ≤ stop) (more : index + 1 < words) {next : ℕ} (read : next ≡ numberAt little 4 s (4 + 4 * (index + 1))) where
+      reaches : Reached ourRules edition s c (wordBits * (index + 1)) next
+      reaches =
+          subst₂ (Reached ourRules edition s c) (omega arith) (sym read)
+          (passes-word edition s known (known-here (w .sofar)) (w .stands) (here-more (w .sofar)) none past)
+
+      -- and stops the walk where it is continued and carries a field
+      module _ {word strange : ℕ} (held : Held s size index word) (told : Continues word next strange) where
+        following : suc index ≡ index + 1
+        following = omega arith
+
+        pub counts-strange : (strange ≡ 0 → ⊥) → stepOf ourRules edition s c ≡ over (stopped (index + 1) (trailingZeros wordBits strange))
+        counts-strange some =
+            stops-continued edition s word (index + 1) reaches (omega (arith, w .sofar .count)) on told some
+          where
+            on : bitSet word 29 ≡ false → wordBits ≤ firstNumber (wordsOf s c) (index + 1)
+            on clear =
+                let ws : List ℕ = w .sofar .found .ws in
+                rw (own-words (w .sofar))
+                (subst (λ (k : ℕ). wordBits ≤ firstNumber ws k) following
+                (goes-on ws (suc index) (ap (λ (k : ℕ). bitSet k 29) (held ws (w .sofar .found .words)) ∙ clear)))
+
+        -- else the walk goes on in it: its bits that carry a field are numbered from 0 again
+        known-next : KnownBits edition known → strange ≡ 0 → KnownAt edition s size (index + 1) known
+        known-next knowing nothing ws same bit h carries =
+            let here : wordAt (wordBits * (index + 1)) ≡ index + 1 = omega arith in
+            let own : wordsOf s c ≡ ws = own-words (w .sofar) ∙ given-same (sym (w .sofar .found .words) ∙ same) in
+            let its : getD ws (index + 1) 0 ≡ next =
+            sym (ap (λ (ws : List ℕ). getD ws (index + 1) 0) own)
+            ∙ sym (ap (λ (k : ℕ). getD (wordsOf s c) k 0) here)
+            ∙ reaches .word (omega (arith, here, w .sofar .count)) in
+            let clear : (not (bitSet word 29) && carriesField next bit) ≡ false =
+            sym (told .told bit h) ∙ ap (λ (k : ℕ). bitSet k bit) nothing ∙ none-set bit in
+            let set : bitSet word 29 ≡ true =
+            set-before (bitSet word 29) (carriesField next bit) clear (sym (ap (λ (k : ℕ). carriesField k bit) its) ∙ carries) in
+            let first : firstNumber ws (index + 1) ≡ 0 =
+            ap (firstNumber ws) (sym following) ∙ starts-at-0 ws (suc index) (ap (λ (k : ℕ). bitSet k 29) (held ws same) ∙ set) in
+            let number : bit ≡ firstNumber ws (index + 1) + bit = omega (arith, first) in
+            knowing bit h ∙ ap (knows ourRules edition) number
+
+        pub counts-word : KnownBits edition known → strange ≡ 0 → AtWord edition s known size words c (index + 1) next last fields
+        counts-word knowing nothing =
+            let before = w .sofar in
+            record {
+              sofar = record {
+                kept = before .kept;
+                found = before .found;
+                knowing = known-next knowing nothing;
+                count = before .count;
+                more = more;
+                room = before .room;
+                inside = before .inside;
+              };
+              reached = reaches;
+              free = w .stands .free;
+            }
 
     -- the first bit left carries a field that is known
     module _ (some : left ≡ 0 → ⊥) where
       pub counts-small : trailingZeros wordBits left < wordBits
-      counts-small = bit-small edition s known (w .sofar .knowing) (w .stands) (here-more (w .sofar)) some
+      counts-small = bit-small edition s known (known-here (w .sofar)) (w .stands) (here-more (w .sofar)) some
 
       module _ {p : Span} (spans : SpannedAs (trailingZeros wordBits left) p) where
         pub counts-near : bitOr last (p .mask) < last + 8
-        counts-near = omega (arith, starts-near edition s known (w .sofar .knowing) (w .stands) (here-more (w .sofar)) some spans)
+        counts-near = omega (arith, starts-near edition s known (known-here (w .sofar)) (w .stands) (here-more (w .sofar)) some spans)
 
         pub counts-past : size ≤ bitOr last (p .mask) + p .size → stepOf ourRules edition s c ≡ refusedStep fieldPast (bitOr last (p .mask) + 1)
         counts-past h =
-            refuses-past edition s known (w .sofar .knowing) (w .stands) (here-more (w .sofar)) some spans (omega (arith, w .sofar .found .same))
+            refuses-past edition s known (known-here (w .sofar)) (w .stands) (here-more (w .sofar)) some spans (omega (arith, w .sofar .found .same))
 
         abbrev pub after : Cursor
-        after = behind edition s known (w .sofar .knowing) (w .stands) (here-more (w .sofar)) some spans
+        after = behind edition s known (known-here (w .sofar)) (w .stands) (here-more (w .sofar)) some spans
 
         module _ (h : bitOr last (p .mask) + p .size < size) where
           pub counts-field : stepOf ourRules edition s c
@@ -180,7 +250,7 @@ module _ (edition : ℕ) (s : List ℕ) (known : ℕ) where
               })
               after
           counts-field =
-              meets-field edition s known (w .sofar .knowing) (w .stands) (here-more (w .sofar)) some spans (omega (arith, w .sofar .found .same))
+              meets-field edition s known (known-here (w .sofar)) (w .stands) (here-more (w .sofar)) some spans (omega (arith, w .sofar .found .same))
 
           pub counts-next : Counting edition s known size words after index (bitAnd left (left - 1)) stop (bitOr last (p .mask) + p .size) (fields + 1)
           counts-next =
@@ -195,5 +265,5 @@ module _ (edition : ℕ) (s : List ℕ) (known : ℕ) where
                   room = omega arith;
                   inside = before .inside;
                 };
-                stands = stands-behind edition s known (before .knowing) (w .stands) (here-more before) some spans (omega arith);
+                stands = stands-behind edition s known (known-here before) (w .stands) (here-more before) some spans (omega arith);
               }

@@ -61,7 +61,8 @@ pub fn opened(s: &[u8], edition: u32) -> HeadAnswer
 }
 
 // Counts the fields behind a head in the edition taken, and so judges the header whole: word by word up to the one that
-// calls for no other, and in each word from one bit that is shown to the next.
+// calls for no other, and in each word from one bit that is shown to the next. A continued word carries nothing
+// and only stops.
 fn count(s: &[u8], taken: u32, head: Head) -> ReadAnswer
     requires { ⌜ headAt (now s) ≡ given head ⌝ }
     ensures { λ r. ⌜ readSays r ≡ summarised (getD (now (s .entry)) 1 0) head (outcome 0 (readWords ourRules taken (now (s .entry)) (head .size) (presenceWords (now (s .entry)) (head .size)))) ⌝ }
@@ -111,7 +112,19 @@ fn count(s: &[u8], taken: u32, head: Head) -> ReadAnswer
         }
         index += 1;
         let at = 4 + 4 * index as usize;
-        word = number_at::join32(s[at + 3], s[at + 2], s[at + 1], s[at + 0]);
+        let next = number_at::join32(s[at + 3], s[at + 2], s[at + 1], s[at + 0]);
+        let strange = radiotap_bits::continued(word, next);
+        if strange != 0 {
+            return ReadAnswer::Stopped {
+                fields,
+                frame: size,
+                pad,
+                words: head.words,
+                word: index,
+                bit: u32::trailing_zeros(strange),
+            };
+        }
+        word = next;
     }
 }
 

@@ -4,14 +4,14 @@ use Prim.Native.Nat.{ℕ, zero, suc, _+_, _-_, _*_, _/_, _%_, _^_, _≤_, _<_, m
 use mathlib.Core.Path.{_≡_, refl, sym, ap, ap₂, _∙_}
 use mathlib.Core.Bool.{Bool, true, false, not, _&&_, and-eq-true-iff}
 use native.Mathlib.Omega.{arith}
-use native.Mathlib.Nat.{min-zero, zero-min, min-le-left, pow-suc, mul-assoc, zero-div}
+use native.Mathlib.Nat.{min-zero, zero-min, min-le-left, pow-suc, mul-assoc}
 use native.Mathlib.Decide.{decLe}
 use lib.Dec.{eqb}
 use lib.Bits.{bitAnd, bitXor, differ, and-step, and-le-l, and-le-r, and-shr, and-self, xor-step, xor-shr, xor-lt}
 use lib.Count.{trailingZeros, under, trailing-le, trailing-of-zero}
 use Rattle.radiotap_rules.specs.Reading.{bitSet, wordBits}
-use Rattle.radiotap_bits.specs.Bits.{bare, carriesField, LeftFrom, StopsAt, Carries}
-use Rattle.radiotap_bits.proofs.SetLaws.{bit-shifted, bit-zero, trailing-clear, trailing-set, trailing-below}
+use Rattle.radiotap_bits.specs.Bits.{bare, carriesField, LeftFrom, StopsAt, Carries, Continues}
+use Rattle.radiotap_bits.proofs.SetLaws.{bit-shifted, bit-zero, none-set, trailing-clear, trailing-set, trailing-below}
 
 -- two digits of a number: both set, and the first set without the second
 and-digits : (x y : ℕ) → x < 2 → y < 2 → eqb (min x y) 1 ≡ (eqb x 1 && eqb y 1)
@@ -192,6 +192,24 @@ and-not-true true true e = let z : _≡_ {A = ℕ} 0 1 = cc in absurd (omega ari
 and-not-true true false e = (refl, refl)
 and-not-true false u e = let z : _≡_ {A = ℕ} 0 1 = cc in absurd (omega arith)
 
+-- the bits of a word that carry a field
+field-bit : (word bit : ℕ) → bit < wordBits → bitSet (bitAnd word 1610612735) bit ≡ carriesField word bit
+field-bit word bit h = and-bit word 1610612735 bit ∙ ap (λ (t : Bool). bitSet word bit && t) (carrying-bits bit h)
+
+-- behind a word with bit 29 set none of them stops a walk, behind one without it each does
+module _ (before word : ℕ) where
+  pub continues-none : bitSet before 29 ≡ true → Continues before word 0
+  continues-none set = record {
+    small = omega arith;
+    told = λ bit h. none-set bit ∙ ap (λ (t : Bool). not t && carriesField word bit) (sym set);
+  }
+
+  pub continues-all : bitSet before 29 ≡ false → Continues before word (bitAnd word 1610612735)
+  continues-all clear = record {
+    small = omega (arith, and-le-r word 1610612735);
+    told = λ bit h. field-bit word bit h ∙ ap (λ (t : Bool). not t && carriesField word bit) (sym clear);
+  }
+
 module _ (word known : ℕ) where
   -- the bits of a word that carry a field, those of them that are known, and the others
   abbrev fields : ℕ
@@ -203,9 +221,6 @@ module _ (word known : ℕ) where
   abbrev stop : ℕ
   stop = trailingZeros wordBits unknown
 
-  field-bit : (bit : ℕ) → bit < wordBits → bitSet fields bit ≡ carriesField word bit
-  field-bit bit h = and-bit word 1610612735 bit ∙ ap (λ (t : Bool). bitSet word bit && t) (carrying-bits bit h)
-
   -- the first of the others stops a walk
   stops-first : StopsAt word known stop
   stops-first =
@@ -214,8 +229,8 @@ module _ (word known : ℕ) where
             λ bit h high carries.
             both-not (bitSet fields bit) (bitSet known bit)
             (sym (without-bit fields known bit) ∙ trailing-clear wordBits unknown bit h)
-            (field-bit bit high ∙ carries);
-        carries = λ h. sym (field-bit stop h) ∙ set h .0;
+            (field-bit word bit high ∙ carries);
+        carries = λ h. sym (field-bit word stop h) ∙ set h .0;
         unknown = λ h. set h .1;
         high = trailing-le wordBits unknown;
       }
@@ -239,7 +254,7 @@ module _ (word known : ℕ) where
     shown-below : (bit : ℕ) → bit < stop → bit < wordBits → (t u : Bool) → bitSet fields bit ≡ t → bitSet known bit ≡ u → (t && u) ≡ t
     shown-below bit inside high true true e k = refl
     shown-below bit inside high true false e k =
-        let known-here : bitSet known bit ≡ true = stops-first .below bit inside high (sym (field-bit bit high) ∙ e) in
+        let known-here : bitSet known bit ≡ true = stops-first .below bit inside high (sym (field-bit word bit high) ∙ e) in
         let z : _≡_ {A = ℕ} 0 1 = cc in
         absurd (omega arith)
     shown-below bit inside high false u e k = refl
@@ -270,7 +285,7 @@ module _ (word known : ℕ) where
     carries-all =
         record {
           small = unknown-small;
-          strange = λ bit high. without-bit fields known bit ∙ ap (λ (t : Bool). t && not (bitSet known bit)) (field-bit bit high);
+          strange = λ bit high. without-bit fields known bit ∙ ap (λ (t : Bool). t && not (bitSet known bit)) (field-bit word bit high);
           stops = stops-first;
           left = record {
             small = omega (arith, and-le-r (bitAnd fields known) r);
@@ -280,7 +295,7 @@ module _ (word known : ℕ) where
                 ∙ ap (λ (t : Bool). (bitSet fields bit && bitSet known bit) && t) (below-ones bit inside)
                 ∙ and-true (bitSet fields bit && bitSet known bit)
                 ∙ shown-below bit inside high (bitSet fields bit) (bitSet known bit) refl refl
-                ∙ field-bit bit high;
+                ∙ field-bit word bit high;
             past = λ bit low high.
                 taken bit
                 ∙ and-assoc (bitSet fields bit) (bitSet known bit) (bitSet r bit)
@@ -349,4 +364,4 @@ module _ {word stop from left : ℕ} (l : LeftFrom word stop from left) where
   -- where nothing is left, no bit below the one that stops a walk carries a field
   pub left-none : left ≡ 0 → (bit : ℕ) → from ≤ bit → bit < stop → bit < wordBits → carriesField word bit ≡ false
   left-none none bit low inside high =
-      sym (l .behind bit low inside high) ∙ ap (λ (n : ℕ). bitSet n bit) none ∙ ap (λ (n : ℕ). eqb (n % 2) 1) (zero-div (2 ^ bit))
+      sym (l .behind bit low inside high) ∙ ap (λ (n : ℕ). bitSet n bit) none ∙ none-set bit

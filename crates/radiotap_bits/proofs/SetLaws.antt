@@ -19,6 +19,10 @@ bit-shifted n k i j e = rw (← e) (ap (λ (m : ℕ). eqb (m % 2) 1) (sym (shr-s
 pub bit-zero : (n : ℕ) → bitSet n 0 ≡ eqb (n % 2) 1
 bit-zero n = ap (λ (m : ℕ). eqb (m % 2) 1) (div-one n)
 
+-- no bit of 0 is set
+pub none-set : (i : ℕ) → bitSet 0 i ≡ false
+none-set i = ap (λ (m : ℕ). eqb (m % 2) 1) (zero-div (2 ^ i))
+
 -- the bits below the lowest set one are clear
 pub trailing-clear : (k n i : ℕ) → i < trailingZeros k n → bitSet n i ≡ false
 unfolding trailingZeros
@@ -71,7 +75,7 @@ next-none word from e = record {
   clear = λ i l u.
       bit-shifted word from i (i - from) (omega arith)
       ∙ ap (λ (m : ℕ). bitSet m (i - from)) e
-      ∙ ap (λ (m : ℕ). eqb (m % 2) 1) (zero-div (2 ^ (i - from)));
+      ∙ none-set (i - from);
   set = λ l. absurd (omega arith);
   low = λ l. absurd (omega arith);
   high = omega arith;

@@ -1,4 +1,5 @@
--- The bits of a presence word: the set ones, those that an edition knows, and what the word carries.
+-- The bits of a presence word: the set ones, those that an edition knows, what the word carries, and what stops a walk in a
+-- continued word.
 use Prim.Native.Nat.{ℕ, _^_, _≤_, _<_}
 use mathlib.Core.Path.{_≡_}
 use mathlib.Core.Bool.{Bool, true, false, not, _&&_, _||_}
@@ -48,3 +49,9 @@ pub record Carries (word known shown unknown : ℕ) : Type 0 where
   pub strange : (bit : ℕ) → bit < wordBits → bitSet unknown bit ≡ (carriesField word bit && not (bitSet known bit))
   pub stops : StopsAt word known (trailingZeros wordBits unknown)
   pub left : LeftFrom word (trailingZeros wordBits unknown) 0 shown
+
+-- the bits by which a word behind another stops a walk since it is continued: those that carry a field, where bit 29 of the
+-- other is clear
+pub record Continues (before word strange : ℕ) : Type 0 where
+  pub small : strange < 2 ^ wordBits
+  pub told : (bit : ℕ) → bit < wordBits → bitSet strange bit ≡ (not (bitSet before 29) && carriesField word bit)

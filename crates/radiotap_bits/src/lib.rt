@@ -1,8 +1,10 @@
-// The bits of a presence word: the next set one, those that an edition knows, and what the word carries.
+// The bits of a presence word: the next set one, those that an edition knows, what the word carries, and whether the next
+// word is continued.
 ghost use mathlib.Core.Path.{_≡_};
 ghost use mathlib.Core.Bool.{cond, _&&_};
 ghost use lib.Dec.{leb};
-ghost use Rattle.radiotap_bits.specs.Bits.{NextSet, KnownBits, Carries};
+ghost use Rattle.radiotap_rules.specs.Reading.{bitSet};
+ghost use Rattle.radiotap_bits.specs.Bits.{NextSet, KnownBits, Carries, Continues};
 
 // The bits of a presence word that carry a field: all but 29 and 31.
 pub const FIELD_BITS: u32 = 0x5fff_ffff;
@@ -65,6 +67,24 @@ pub fn carries(word: u32, known: u32) -> Carried
         shown: known_fields & std::num::wrapping_sub_u32(unknown, 1),
         unknown,
     }
+}
+
+// Whether the word behind a presence word numbers its bits from 0 again: bit 29 lets it.
+pub fn resets(word: u32) -> bool
+    ensures { λ r. ⌜ r ≡ bitSet word 29 ⌝ }
+{
+    (word >> 29) % 2 == 1
+}
+
+// The bits by which a presence word stops a walk since it is continued: those that carry a field, where the word before it
+// does not let it start again.
+pub fn continued(before: u32, word: u32) -> u32
+    ensures { λ r. ⌜ Continues before word r ⌝ }
+{
+    if resets(before) {
+        return 0;
+    }
+    word & FIELD_BITS
 }
 
 // 1 where the edition taken knows a field by its first edition, else 0.

@@ -64,7 +64,7 @@ value-at edition s k f = go (reading ourRules edition s) refl
         octets : isDbm (f .bit) ≡ true → getD (f .octets) 0 0 ≡ getD s (f .place + 0) 0
         octets d =
             let at : f .place ≡ f .place + 0 = omega arith in
-            ap (λ (xs : List ℕ). getD xs 0 0) (fields-inside ourRules edition s fs ending frame e .lies k f ending h .octets)
+            ap (λ (xs : List ℕ). getD xs 0 0) (fields-inside ourRules edition s fs ending frame refl e .lies k f ending h .octets)
             ∙ ap (λ (n : ℕ). getD (take n (drop (f .place) s)) 0 0) (dbm-size (f .bit) d)
             ∙ first-octet s (f .place)
             ∙ ap (λ (n : ℕ). getD s n 0) at

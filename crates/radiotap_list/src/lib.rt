@@ -137,7 +137,19 @@ fn list(
         }
         index += 1;
         let at = 4 + 4 * index as usize;
-        word = number_at::join32(s[at + 3], s[at + 2], s[at + 1], s[at + 0]);
+        let next = number_at::join32(s[at + 3], s[at + 2], s[at + 1], s[at + 0]);
+        let strange = radiotap_bits::continued(word, next);
+        if strange != 0 {
+            return ReadAnswer::Stopped {
+                fields,
+                frame: size,
+                pad,
+                words: head.words,
+                word: index,
+                bit: u32::trailing_zeros(strange),
+            };
+        }
+        word = next;
     }
 }
 

@@ -13,7 +13,8 @@ use Rattle.radiotap_rules.specs.Answers.{unknownField, lies, layOf}
 use Rattle.radiotap_rules.specs.Writing.{isField, writableFrom, writable, Planned, planFrom, plan, summed}
 use Rattle.radiotap_rules.specs.Rewriting.{lastEnd}
 use Rattle.radiotap_rules.proofs.TableTests.{known-aligned, known-low}
-use Rattle.radiotap_rules.proofs.Meanings.{number-alone, present-alone, means-known}
+use Rattle.radiotap_rules.proofs.Numbering.{number-alone}
+use Rattle.radiotap_rules.proofs.Meanings.{present-alone, means-known}
 use Rattle.radiotap_rules.proofs.Walks.{by-meaning}
 use Rattle.radiotap_rules.proofs.Planning.{aligned-after, clear-nothing}
 use Rattle.radiotap_bits.specs.Bits.{NextSet}

@@ -1,4 +1,5 @@
 pub mod TableTests
+pub mod Numbering
 pub mod Meanings
 pub mod Walks
 pub mod Words

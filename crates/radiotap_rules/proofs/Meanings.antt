@@ -13,17 +13,9 @@ use borrow.Author.Tests.{ne-eqb}
 use Rattle.radiotap_rules.specs.Rules.{Rules, rowOf, knows}
 use Rattle.radiotap_rules.specs.Reading.{bitSet, wordBits, wordAt, bitAt, rowNumber, present, Meaning, nothing, unknownHere, field, meaning}
 
--- every word numbers its bits from 0 again
-pub number-bit : (words : List ℕ) (q : ℕ) → rowNumber words q ≡ bitAt q
-number-bit words q = refl
-
--- a position of the one presence word is its bit: it has the row of that number, and is present where the bit is set
-module _ (word q : ℕ) (l : q < wordBits) where
-  pub number-alone : rowNumber (word ∷ []) q ≡ q
-  number-alone = number-bit (word ∷ []) q ∙ mod-eq-of-lt l
-
-  pub present-alone : present (word ∷ []) q ≡ bitSet word q
-  present-alone = rw (div-eq-of-lt l, mod-eq-of-lt l)
+-- a position of the one presence word is present where its bit is set
+pub present-alone : (word q : ℕ) → q < wordBits → present (word ∷ []) q ≡ bitSet word q
+present-alone word q l = rw (div-eq-of-lt l, mod-eq-of-lt l)
 
 both : (t : Bool) → cond t nothing nothing ≡ nothing
 both true = refl

@@ -1,18 +1,19 @@
 -- Where the fields of a reading lie, and how long they are.
 -- Assumes nothing.
 use Prim.Native.Nat.{ℕ, zero, suc, _+_, _≤_}
-use mathlib.Core.Path.{_≡_, refl, sym, _∙_, subst}
+use mathlib.Core.Path.{_≡_, sym, ap, _∙_, subst}
+use mathlib.Core.Bool.{true}
 use mathlib.Core.List.{List, [], _∷_}
 use native.Mathlib.Omega.{arith}
 use lib.ListN.{length}
 use Rattle.refusals.specs.Refusals.{given}
 use Rattle.octets.specs.Parts.{part}
 use Rattle.octets.proofs.PartLaws.{length-part}
-use Rattle.radiotap_rules.specs.Rules.{Rules, rowOf, knows, editionTaken}
+use Rattle.radiotap_rules.specs.Rules.{Rules, rowOf, knows, tableOk, editionTaken}
 use Rattle.radiotap_rules.specs.Reading.{fixedHeader, bitAt, rowNumber, Meaning, nothing, unknownHere, field, meaning, Field, Walk, refusedAt, shown, withField, onMeaning, fieldsFrom, Reading, refusedBefore, refusedAtField, read, readWalk}
 use Rattle.radiotap_rules.specs.Fields.{Lies, AllLie, Inside, FieldsInside}
 use Rattle.radiotap_rules.specs.Orders.{FixedHeader}
-use Rattle.radiotap_rules.proofs.Meanings.{number-bit}
+use Rattle.radiotap_rules.proofs.Numbering.{number-bit}
 use Rattle.radiotap_rules.proofs.Orders.{either, fixed-exactly}
 use Rattle.radiotap_rules.proofs.Walks.{fieldAt, on-field, by-meaning, by-walks, served-reads, read-served}
 
@@ -27,12 +28,12 @@ OwnRow rules n nothing = Unit {0}
 OwnRow rules n unknownHere = Unit {0}
 OwnRow rules n (field r) = r ≡ rowOf rules n
 
-own-row : (rules : Rules) (edition : ℕ) (words : List ℕ) (q : ℕ) → OwnRow rules (bitAt q) (meaning rules edition words q)
-own-row rules edition words q =
-    let n : ℕ = rowNumber words q in
-    subst (λ (n : ℕ). OwnRow rules n (meaning rules edition words q)) (number-bit words q)
-    (by-meaning words q (λ meaningIn. OwnRow rules n (meaningIn rules edition)) tt tt
-    (either (OwnRow rules n) (knows rules edition n) _ _ (λ k. refl) (λ k. tt)))
+own-row : (rules : Rules) (edition : ℕ) (words : List ℕ) (q : ℕ) → tableOk rules ≡ true
+    → OwnRow rules (bitAt q) (meaning rules edition words q)
+own-row rules edition words q ok =
+    by-meaning words q (λ meaningIn. OwnRow rules (bitAt q) (meaningIn rules edition)) tt tt
+    (either (OwnRow rules (bitAt q)) (knows rules edition (rowNumber words q)) _ _
+    (λ known. ap (rowOf rules) (number-bit rules ok edition words q known)) (λ k. tt))
 
 none-lie : (rules : Rules) (s : List ℕ) (size : ℕ) → AllLie rules s size []
 none-lie rules s size k f e x = let z : _≡_ {A = ℕ} 0 1 = cc in absurd (omega arith)
@@ -51,7 +52,7 @@ module _ (rules : Rules) (s : List ℕ) (size : ℕ) where
       all zero g e x = subst (Lies rules s size) (cc) h
       all (suc k) g e x = rest k g e x
 
-  module _ (input : size ≤ length s) where
+  module _ (ok : tableOk rules ≡ true) (input : size ≤ length s) where
     lies-meaning : (q at : ℕ) (rest : ℕ → Walk) (m : Meaning) → OwnRow rules (bitAt q) m
         → ((at : ℕ) → WalkLies rules s size (rest at)) → WalkLies rules s size (onMeaning s size q at rest m)
     lies-meaning q at rest nothing own h = h at
@@ -70,7 +71,7 @@ module _ (rules : Rules) (s : List ℕ) (size : ℕ) where
     lies-walk edition words zero q at = none-lie rules s size
     lies-walk edition words (suc left) q at =
         lies-meaning q at (fieldsFrom rules edition s size words left (suc q)) (meaning rules edition words q)
-        (own-row rules edition words q) (lies-walk edition words left (suc q))
+        (own-row rules edition words q ok) (lies-walk edition words left (suc q))
 
 -- the fields that a reading shows lie inside the length
 abbrev ReadingLies : Rules → List ℕ → Reading → Type 0
@@ -80,13 +81,13 @@ ReadingLies rules s (read fs e frame) = Inside rules s fs
 
 -- every field that a reading shows is as long as its row says and lies inside the length that the fixed header gives
 pub fields-inside : FieldsInside
-fields-inside rules edition s fs e frame h =
+fields-inside rules edition s fs e frame ok h =
     subst (ReadingLies rules s) (sym (served-reads rules edition s (read-served rules edition s fs e frame h)) ∙ h)
     (by-walks s (λ readIn. ReadingLies rules s (readIn rules (editionTaken (rules .readingDefault) edition)))
     (λ number place. tt)
     (λ size header words left q at.
     let input : size ≤ length s = length-told s size header .inside in
-    go size header input (fieldsFrom rules _ s size words left q at) (lies-walk rules s size input _ words left q at)))
+    go size header input (fieldsFrom rules _ s size words left q at) (lies-walk rules s size ok input _ words left q at)))
   where
     go : (size : ℕ) → fixedHeader s ≡ given size → size ≤ length s → (x : Walk) → WalkLies rules s size x
         → ReadingLies rules s (readWalk s size x)

@@ -131,6 +131,14 @@ module _ (rules : Rules) (edition n : ℕ) where
         go (no l) (no l′) (no m) (yes e) = none 30 e (two .0)
         go (no l) (no l′) (no m) (no m′) = none 31 (omega arith) (and-eq-true-iff (rowUnknown (rowOf rules 31)) true .0 (two .1) .0)
 
+-- so past bit 28 no edition knows a field
+pub unknown-high : (rules : Rules) (edition n : ℕ) → tableOk rules ≡ true → 28 < n → knows rules edition n ≡ false
+unknown-high rules edition n ok high = go (knows rules edition n) refl
+  where
+    go : (k : Bool) → knows rules edition n ≡ k → k ≡ false
+    go true known = absurd (omega (arith, known-low rules edition n ok known))
+    go false e = refl
+
 -- in a row that passes, what an edition knows the next one knows
 next-knows : (newest e : ℕ) (r : Row) → rowNests newest r ≡ true → e < newest → rowKnown e r ≡ true → rowKnown (suc e) r ≡ true
 next-knows zero e r ok l known = absurd (omega arith)

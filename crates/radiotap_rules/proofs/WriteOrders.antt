@@ -18,7 +18,8 @@ use Rattle.radiotap_rules.specs.Reading.{bitSet, wordBits, bitAt, Meanin
 use Rattle.radiotap_rules.specs.Answers.{summary, octetsOfField, frameIn, dbmOf, listedInto}
 use Rattle.radiotap_rules.specs.Writing.{isField, writableAt, writableFrom, writable, writing, written}
 use Rattle.radiotap_rules.specs.Orders.{readAbove, UnknownSet, AllKnown, Writes, writtenLength, WriteRefused, writeAbove, atUnknownBit, atOtherLength, atNoRoom, WriteExactly, EditionAbove}
-use Rattle.radiotap_rules.proofs.Meanings.{number-alone, present-alone, MeansSo, means-so}
+use Rattle.radiotap_rules.proofs.Numbering.{number-alone}
+use Rattle.radiotap_rules.proofs.Meanings.{present-alone, MeansSo, means-so}
 use Rattle.radiotap_rules.proofs.Orders.{Told, toldRefused, toldGiven, of-refused, of-given, either, before-exactly}
 
 module _ (rules : Rules) (edition word : ℕ) where

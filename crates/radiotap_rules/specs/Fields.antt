@@ -1,11 +1,12 @@
 -- Where the fields that a reading shows lie. Proof: proofs/Places.antt.
 use Prim.Native.Nat.{ℕ, _+_, _≤_}
 use mathlib.Core.Path.{_≡_}
+use mathlib.Core.Bool.{true}
 use mathlib.Core.List.{List}
 use lib.ListN.{length}
 use Rattle.refusals.specs.Refusals.{given}
 use Rattle.octets.specs.Parts.{part}
-use Rattle.radiotap_rules.specs.Rules.{Rules, rowOf}
+use Rattle.radiotap_rules.specs.Rules.{Rules, rowOf, tableOk}
 use Rattle.radiotap_rules.specs.Reading.{fixedHeader, Field, Ending, reading, read, theField, nth}
 
 -- a field inside the length, as long as its row says: its octets are the very octets at its place
@@ -27,5 +28,5 @@ pub record Inside (rules : Rules) (s : List ℕ) (fs : List Field) : Type 0 wher
 
 -- every field that a reading shows, by its number, is as long as its row says and lies inside the header's length
 abbrev pub FieldsInside : Type 0
-FieldsInside = (rules : Rules) (edition : ℕ) (s : List ℕ) (fs : List Field) (e : Ending) (frame : List ℕ)
+FieldsInside = (rules : Rules) (edition : ℕ) (s : List ℕ) (fs : List Field) (e : Ending) (frame : List ℕ) → tableOk rules ≡ true
     → reading rules edition s ≡ read fs e frame → Inside rules s fs

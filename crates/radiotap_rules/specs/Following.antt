@@ -1,7 +1,9 @@
 -- Document 01, "Radiotap": "Fields follow the last word in order of word and bit. Each starts at the next multiple of its
 -- alignment, counted from the header's start." "Bits 29 and 31 carry no field. A set bit among 0 to 28 that the edition
 -- doesn't know, or bit 30, stops the reading". "Octets left before the length are allowed. The frame is the input from the
--- length on." What a reading answers, by the set bits in their order and the places. Proof: proofs/Following.antt.
+-- length on." Document 02, W-205: "a set bit among 0 to 28 of a continued word stops the reading there by word and bit, in
+-- every edition. Bit 30 stops as before, also beside bit 29." What a reading answers, by the set bits in their order and the
+-- places. Proof: proofs/Following.antt.
 use Prim.Native.Nat.{ℕ, suc, _+_, _*_, _%_, _≤_, _<_}
 use mathlib.Core.Path.{_≡_}
 use mathlib.Core.Bool.{true, false}
@@ -10,11 +12,8 @@ use mathlib.Core.List.{List, [], _∷_, _++_}
 use lib.ListN.{length, getD, take}
 use Rattle.refusals.specs.Refusals.{given}
 use Rattle.radiotap_rules.specs.Rules.{Rules, rowOf, knows, tableOk, editionTaken, served}
+use Rattle.radiotap_rules.specs.Words.{position, StartsAgain, Continued}
 use Rattle.radiotap_rules.specs.Reading.{fixedHeader, presenceWords, bitSet, Field, Ending, ended, stopped, Reading, refusedBefore, refusedAtField, read, reading}
-
--- the bits of all words, counted on from word to word
-abbrev pub position : (word bit : ℕ) → ℕ
-position word bit = 32 * word + bit
 
 -- from a position up to another no bit is set but bits 29 and 31
 abbrev pub NoneBetween : (ws : List ℕ) → (q q′ : ℕ) → Type 0
@@ -34,17 +33,20 @@ pub record NextMultiple (alignment at place : ℕ) : Type 0 where
   pub after : at ≤ place
   pub next : place < at + alignment
 
--- a field that comes first from a position on, and starts at the next multiple of its alignment from a place on
+-- a field that comes first from a position on, in a word that starts again, and starts at the next multiple of its alignment
+-- from a place on
 pub record Follows (rules : Rules) (edition : ℕ) (ws : List ℕ) (q at word bit start : ℕ) : Type 0 where
   pub first : First ws q word bit
   pub carries : bit ≤ 28
+  pub again : StartsAgain ws word
   pub known : knows rules edition bit ≡ true
   pub starts : NextMultiple (rowOf rules bit .alignment) at start
 
 -- how a reading ends that has come to a position
 abbrev pub Ends : Rules → (edition : ℕ) → (ws : List ℕ) → Ending → (q : ℕ) → Type 0
 Ends rules edition ws ended q = NoneBetween ws q (32 * length ws)
-Ends rules edition ws (stopped word bit) q = First ws q word bit × ((bit ≡ 30) ⊎ ((bit ≤ 28) × (knows rules edition bit ≡ false)))
+Ends rules edition ws (stopped word bit) q =
+    First ws q word bit × ((bit ≡ 30) ⊎ ((bit ≤ 28) × (Continued ws word ⊎ (knows rules edition bit ≡ false))))
 
 -- the fields from a position and a place on follow one another inside the length, and then something holds of the position
 -- and the place behind the last of them

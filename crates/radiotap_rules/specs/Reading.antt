@@ -76,22 +76,30 @@ wordsFrom s size at (suc more) =
 unfoldable pub presenceWords : List ℕ → (size : ℕ) → Answer (List ℕ)
 presenceWords s size = wordsFrom s size 4 (mostWords - 1)
 
--- a position is a bit of a word: position q is bit q mod 32 of word q div 32. Every word numbers its bits from 0 again,
--- so the number of its row in the table is its bit.
+-- a position is a bit of a word: position q is bit q mod 32 of word q div 32
 abbrev pub wordAt : ℕ → ℕ
 wordAt q = q / wordBits
 
 abbrev pub bitAt : ℕ → ℕ
 bitAt q = q % wordBits
 
+-- Document 02, W-205, in place of "Every word numbers its bits from 0 again": the number of a word's bit 0. Word 0 starts at
+-- 0. Bit 29 of a word resets the namespace: the next word starts again at 0, whatever the words before it were. Without
+-- bit 29 the numbering continues behind the word's 32 bits.
+abbrev pub firstNumber : (words : List ℕ) → (word : ℕ) → ℕ
+firstNumber words zero = 0
+firstNumber words (suc n) = cond (bitSet (getD words n 0) 29) 0 (firstNumber words n + wordBits)
+
+-- the number of a position's row in the table. In a continued word it is 32 or more, past the table and known to none.
 abbrev pub rowNumber : (words : List ℕ) → ℕ → ℕ
-rowNumber words q = bitAt q
+rowNumber words q = firstNumber words (wordAt q) + bitAt q
 
 abbrev pub present : (words : List ℕ) → ℕ → Bool
 present words q = bitSet (getD words (wordAt q) 0) (bitAt q)
 
 -- what a position means in an edition: nothing (its bit is clear, or is 29 or 31), a stop (bit 30, or a field that the
--- edition does not know), or a field with its row
+-- edition does not know), or a field with its row. Bits 29 to 31 are judged before the number, and so are the
+-- same in a continued word: 29 and 31 carry no field and stop nothing, 30 stops.
 pub data Meaning : Type 0 where
   nothing : Meaning
   unknownHere : Meaning

@@ -1,6 +1,8 @@
 -- Document 01, "Radiotap": "Bit 31 of a word calls for another, at most 8 in all"; "word by word, for each word 11 before
 -- 10". When each answer of the presence words is given, by the numbers in the input. Proof: proofs/Words.antt.
-use Prim.Native.Nat.{ℕ, suc, _+_, _*_, _≤_, _<_}
+-- Document 02, W-205: "the next word starts again exactly where the present word has bit 29 set; without it, numbering goes
+-- on at 32, and no such field is known." How each word numbers its bits. Proof: proofs/Numbering.antt.
+use Prim.Native.Nat.{ℕ, zero, suc, _+_, _*_, _≤_, _<_}
 use mathlib.Core.Path.{_≡_}
 use mathlib.Core.Bool.{true, false}
 use mathlib.Core.Logic.{_↔_, _⊎_}
@@ -8,7 +10,8 @@ use mathlib.Core.List.{List}
 use lib.ListN.{length, getD}
 use Rattle.refusals.specs.Refusals.{refused, given}
 use Rattle.octets.specs.Numbers.{little, numberAt}
-use Rattle.radiotap_rules.specs.Reading.{bitSet, presenceWords}
+use Rattle.radiotap_rules.specs.Rules.{Rules, knows, tableOk}
+use Rattle.radiotap_rules.specs.Reading.{bitSet, presenceWords, rowNumber}
 
 -- the first so many words lie inside the length, and each calls for another
 pub record Calling (s : List ℕ) (size n : ℕ) : Type 0 where
@@ -43,3 +46,28 @@ pub record Exactly (s : List ℕ) (size : ℕ) : Type 0 where
 -- for every header whose first word lies inside its length
 abbrev pub WordsExactly : Type 0
 WordsExactly = (s : List ℕ) (size : ℕ) → 8 ≤ size → Exactly s size
+
+-- the bits of all words, counted on from word to word
+abbrev pub position : (word bit : ℕ) → ℕ
+position word bit = 32 * word + bit
+
+-- a word starts again: word 0 does, and every word behind one that has bit 29 set
+abbrev pub StartsAgain : (ws : List ℕ) → (word : ℕ) → Type 0
+StartsAgain ws zero = Unit {0}
+StartsAgain ws (suc n) = bitSet (getD ws n 0) 29 ≡ true
+
+-- a word is continued: one behind a word that has bit 29 clear
+abbrev pub Continued : (ws : List ℕ) → (word : ℕ) → Type 0
+Continued ws zero = ⊥
+Continued ws (suc n) = bitSet (getD ws n 0) 29 ≡ false
+
+-- a bit has the row of its own number exactly in a word that starts again, and one of 32 or more exactly in a continued
+-- word, where no edition knows a field
+pub record Numbered (rules : Rules) (ws : List ℕ) (word bit : ℕ) : Type 0 where
+  pub again : (rowNumber ws (position word bit) ≡ bit) ↔ StartsAgain ws word
+  pub on : (32 ≤ rowNumber ws (position word bit)) ↔ Continued ws word
+  pub none : Continued ws word → (edition : ℕ) → knows rules edition (rowNumber ws (position word bit)) ≡ false
+
+-- under every table that passes the test
+abbrev pub NumbersExactly : Type 0
+NumbersExactly = (rules : Rules) (ws : List ℕ) (word bit : ℕ) → tableOk rules ≡ true → bit < 32 → Numbered rules ws word bit

@@ -9,17 +9,22 @@ use mathlib.Core.Logic.{_⊎_, inl, inr}
 use lib.ListN.{getD}
 use lib.Dec.{eqb}
 use native.Mathlib.Decide.{decLe}
+use native.Mathlib.Nat.{zero-add}
 use borrow.Author.Tests.{le-leb, lt-leb, eq-eqb, ne-eqb, eqb-true}
 use Rattle.octets.specs.Numbers.{little, numberAt}
 use Rattle.octets.specs.Parts.{part}
 use Rattle.radiotap_rules.specs.declared.Cursor.{Cursor}
-use Rattle.radiotap_rules.specs.Rules.{Rules, rowOf, knows}
-use Rattle.radiotap_rules.specs.Reading.{fieldPast, wordBits, wordAt, bitAt, rowNumber, bitSet, present, Meaning, nothing, unknownHere, field, meaning, aligned, ended}
-use Rattle.radiotap_rules.specs.Steps.{wordsFor, wordsOf, refusedStep, over, met, metMeaning, metFrom, stepOf}
-use Rattle.radiotap_rules.specs.Answers.{unknownField, lies, layOf}
-use Rattle.radiotap_rules.proofs.Meanings.{number-bit}
+use Rattle.radiotap_rules.specs.Rules.{Rules, rowOf, knows, tableOk}
+use Rattle.radiotap_rules.specs.Reading.{fieldPast, wordBits, wordAt, bitAt, firstNumber, rowNumber, bitSet, present, Meaning, nothing, unknownHere, field, meaning, aligned, ended, stopped}
+use Rattle.radiotap_rules.specs.Steps.{wordsFor, wordsOf, Met, refusedStep, over, met, metMeaning, metFrom, stepOf}
+use Rattle.radiotap_rules.specs.Answers.{Layout, unknownField, lies, layOf}
+use Rattle.radiotap_rules.proofs.TableTests.{unknown-high}
+use Rattle.radiotap_rules.proofs.Numbering.{starts-at-0, goes-on}
+use Rattle.radiotap_table.proofs.RowLaws.{lay-unknown}
 use Rattle.radiotap_bits.specs.Bits.{NextSet}
-use Rattle.radiotap_step.specs.Met.{metLaid}
+use Rattle.radiotap_step.specs.declared.Step.{Step}
+use Rattle.radiotap_step.specs.Met.{metLaid, startsIn}
+use Rattle.radiotap_step.specs.Says.{stepSays, StepSized, MeetSays}
 
 -- a cursor has its own word where its position lies, and the input's words elsewhere
 word-of : (s : List ℕ) (c : Cursor) (i n k : ℕ) → k < n
@@ -81,6 +86,35 @@ skip rules edition s c words (suc n) (suc left) q h none =
     (λ i less. let e″ : q + suc i ≡ suc q + i = omega arith in subst (λ (k : ℕ). meaning rules edition words k ≡ nothing) e″ (none (suc i) (omega arith)))
     ∙ ap (metFrom rules edition s c words (left - n)) e′
     ∙ ap (λ (k : ℕ). metFrom rules edition s c words k (q + suc n)) (let e″ : left - n ≡ suc left - suc n = omega arith in e″)
+
+-- a word numbers its bits from 0 again, or goes on past the table
+abbrev pub NumbersFrom : (again : Bool) → (first : ℕ) → Type 0
+NumbersFrom true first = first ≡ 0
+NumbersFrom false first = wordBits ≤ first
+
+-- by bit 29 of the word before it
+numbers-behind : (words : List ℕ) (n : ℕ) → NumbersFrom (bitSet (getD words n 0) 29) (firstNumber words (suc n))
+numbers-behind words n = go (bitSet (getD words n 0) 29) refl
+  where
+    go : (t : Bool) → bitSet (getD words n 0) 29 ≡ t → NumbersFrom t (firstNumber words (suc n))
+    go true e = starts-at-0 words (suc n) e
+    go false e = goes-on words (suc n) e
+
+-- which stands before it in the input
+pub starts-behind : (s : List ℕ) (word : ℕ) → (word ≡ 0 → ⊥) → startsIn s word ≡ bitSet (numberAt little 4 s (4 * word)) 29
+starts-behind s zero h = absurd (h refl)
+starts-behind s (suc n) h =
+    let place : 4 + 4 * n ≡ 4 * suc n = omega arith in
+    ap (λ (k : ℕ). bitSet (numberAt little 4 s k) 29) place
+
+-- and which the input has for the cursor's own word
+numbers-own : (s : List ℕ) (c : Cursor) (word : ℕ) → word ≡ wordAt (c .position) → word < c .words
+    → NumbersFrom (startsIn s word) (firstNumber (wordsOf s c) word)
+numbers-own s c zero own h = refl
+numbers-own s c (suc n) own h =
+    let other : eqb (0 + n) (wordAt (c .position)) ≡ false = ne-eqb (0 + n) (wordAt (c .position)) (λ e. omega arith) in
+    let held : getD (wordsOf s c) n 0 ≡ numberAt little 4 s (4 + 4 * n) = word-of s c 0 (c .words) n (omega arith) ∙ rw (other, zero-add n) in
+    subst (λ (k : ℕ). NumbersFrom (bitSet k 29) (firstNumber (wordsOf s c) (suc n))) held (numbers-behind (wordsOf s c) n)
 
 -- the step is what is met from the position reached on, and the bits held are those of its word
 pub record Reached (rules : Rules) (edition : ℕ) (s : List ℕ) (c : Cursor) (position bits : ℕ) : Type 0 where
@@ -174,17 +208,20 @@ module _ (rules : Rules) (edition : ℕ) (s : List ℕ) (c : Cursor) where
             later = omega (arith, r .later);
           }
 
-      -- a set bit, neither 29 nor 31, stops the walk or is a field: by where its field lies. No edition knows bit 30.
+      -- a set bit, neither 29 nor 31, stops the walk or is a field: by where the field of its number lies. No edition knows
+      -- the number of a bit 30.
       pub meets : (bit : ℕ) → bitAt position ≤ bit → bit < wordBits
           → ((b : ℕ) → bitAt position ≤ b → b < bit → (bitSet bits b ≡ false) ⊎ ((eqb b 29 || eqb b 31) ≡ true))
-          → bitSet bits bit ≡ true → (eqb bit 29 || eqb bit 31) ≡ false → knows rules edition 30 ≡ false
-          → stepOf rules edition s c ≡ metLaid s c (wordAt position) bit bits (layOf rules edition bit (c .at))
+          → bitSet bits bit ≡ true → (eqb bit 29 || eqb bit 31) ≡ false → tableOk rules ≡ true
+          → stepOf rules edition s c
+          ≡ metLaid s c (wordAt position) bit bits (layOf rules edition (firstNumber (wordsOf s c) (wordAt position) + bit) (c .at))
       unfolding layOf
-      meets bit low high none set other thirty =
+      meets bit low high none set other ok =
           let q = wordBits * wordAt position + bit in
           let w : wordAt q ≡ wordAt position = omega arith in
           let b : bitAt q ≡ bit = omega arith in
-          let number : rowNumber (wordsOf s c) q ≡ bitAt q = number-bit (wordsOf s c) q in
+          let number : rowNumber (wordsOf s c) q ≡ firstNumber (wordsOf s c) (wordAt position) + bit =
+          ap (λ (k : ℕ). firstNumber (wordsOf s c) k + bitAt q) w ∙ ap (λ (k : ℕ). firstNumber (wordsOf s c) (wordAt position) + k) b in
           let left : wordBits * c .words - q ≡ suc (wordBits * c .words - suc q) = omega arith in
           let held : getD (wordsOf s c) (wordAt q) 0 ≡ bits = ap (λ (k : ℕ). getD (wordsOf s c) k 0) w ∙ r .word inside in
           let here : present (wordsOf s c) q ≡ true = ap (λ (k : ℕ). bitSet k (bitAt q)) held ∙ ap (bitSet bits) b ∙ set in
@@ -192,13 +229,16 @@ module _ (rules : Rules) (edition : ℕ) (s : List ℕ) (c : Cursor) where
           passes bit low (omega arith) none
           ∙ ap (λ (k : ℕ). metFrom rules edition s c (wordsOf s c) k q) left
           ∙ ap (metMeaning s c (wordsOf s c) q (metFrom rules edition s c (wordsOf s c) (wordBits * c .words - suc q) (suc q)))
-          (known-or-stop rules edition (wordsOf s c) q here bare-not (λ e. ap (knows rules edition) (number ∙ e) ∙ thirty))
+          (known-or-stop rules edition (wordsOf s c) q here bare-not (λ e. unknown-high rules edition (rowNumber (wordsOf s c) q) ok (omega (arith, e))))
           ∙ laid-at q (rowNumber (wordsOf s c) q) (knows rules edition (rowNumber (wordsOf s c) q))
           ∙ ap (λ (n : ℕ). metLaid s c (wordAt q) (bitAt q) (getD (wordsOf s c) (wordAt q) 0) (layOf rules edition n (c .at))) number
-          ∙ ap (λ (k : ℕ). metLaid s c k (bitAt q) (getD (wordsOf s c) (wordAt q) 0) (layOf rules edition (bitAt q) (c .at))) w
-          ∙ ap (λ (k : ℕ). metLaid s c (wordAt position) (bitAt q) k (layOf rules edition (bitAt q) (c .at))) held
-          ∙ ap (λ (k : ℕ). metLaid s c (wordAt position) k bits (layOf rules edition k (c .at))) b
+          ∙ ap (λ (k : ℕ). metLaid s c k (bitAt q) (getD (wordsOf s c) (wordAt q) 0) (layAt bit)) w
+          ∙ ap (λ (k : ℕ). metLaid s c (wordAt position) (bitAt q) k (layAt bit)) held
+          ∙ ap (λ (k : ℕ). metLaid s c (wordAt position) k bits (layAt bit)) b
         where
+          layAt : ℕ → Layout
+          layAt bit = layOf rules edition (firstNumber (wordsOf s c) (wordAt position) + bit) (c .at)
+
           laid-at : (q n : ℕ) (k : Bool)
               → metMeaning s c (wordsOf s c) q (metFrom rules edition s c (wordsOf s c) (wordBits * c .words - suc q) (suc q))
               (cond k (field (rowOf rules n)) unknownHere)
@@ -207,34 +247,82 @@ module _ (rules : Rules) (edition : ℕ) (s : List ℕ) (c : Cursor) where
           laid-at q n true = let e : wordBits * wordAt q + bitAt q + 1 ≡ suc q = omega arith in rw e
           laid-at q n false = refl
 
-      -- by the next set bit of the word that is held
-      module _ {bit : ℕ} (n : NextSet bits (bitAt position) bit) where
-        pub meets-next : bit < 31 → (bit ≡ 29 → ⊥) → knows rules edition 30 ≡ false
-            → stepOf rules edition s c ≡ metLaid s c (wordAt position) bit bits (layOf rules edition bit (c .at))
-        meets-next small other thirty =
-            meets bit (n .low (omega arith)) (omega arith) (λ b low below. inl (n .clear b low below)) (n .set (omega arith))
-            (rw (ne-eqb bit 29 other, ne-eqb bit 31 (λ e. omega (arith, e)))) thirty
+-- a search that has come to a position holds the bits of its word and whether this numbers them from 0 again
+pub record Searches (rules : Rules) (edition : ℕ) (s : List ℕ) (c : Cursor) (position bits : ℕ) (again : Bool) : Type 0 where
+  pub reached : Reached rules edition s c position bits
+  pub numbers : wordAt position < c .words → NumbersFrom again (firstNumber (wordsOf s c) (wordAt position))
 
-        pub passes-29 : bit ≡ 29 → Reached rules edition s c (wordBits * wordAt position + 30) bits
-        passes-29 e = within 30 (omega (arith, n .low (omega arith))) (omega arith) between
-          where
-            between : (b : ℕ) → bitAt position ≤ b → b < 30 → (bitSet bits b ≡ false) ⊎ ((eqb b 29 || eqb b 31) ≡ true)
-            between b low below = go (decLe 29 b)
-              where
-                go : Dec (29 ≤ b) → (bitSet bits b ≡ false) ⊎ ((eqb b 29 || eqb b 31) ≡ true)
-                go (yes h) = inr (rw (eq-eqb b 29 (omega arith)))
-                go (no h) = inl (n .clear b low (omega arith))
+module _ (rules : Rules) (edition : ℕ) (s : List ℕ) (c : Cursor) where
+  pub searches : Searches rules edition s c (c .position) (c .bits) (startsIn s (wordAt (c .position)))
+  searches = record { reached = starts rules edition s c; numbers = numbers-own s c (wordAt (c .position)) refl }
 
-        pub next-word : 31 ≤ bit
-            → Reached rules edition s c (wordBits * wordAt position + wordBits) (numberAt little 4 s (4 + 4 * (wordAt position + 1)))
-        next-word h = onward between
-          where
-            between : (b : ℕ) → bitAt position ≤ b → b < wordBits → (bitSet bits b ≡ false) ⊎ ((eqb b 29 || eqb b 31) ≡ true)
-            between b low below = go (decLe 31 b)
-              where
-                go : Dec (31 ≤ b) → (bitSet bits b ≡ false) ⊎ ((eqb b 29 || eqb b 31) ≡ true)
-                go (yes h′) = inr (rw (ne-eqb b 29 (λ e. omega (arith, e)), eq-eqb b 31 (omega arith)))
-                go (no h′) = inl (n .clear b low (omega arith))
+  module _ {position bits : ℕ} {again : Bool} (r : Searches rules edition s c position bits again) (inside : wordAt position < c .words) where
+    -- by the next set bit of the word that is held
+    module _ {bit : ℕ} (n : NextSet bits (bitAt position) bit) where
+      module _ (small : bit < 31) (other : bit ≡ 29 → ⊥) (ok : tableOk rules ≡ true) where
+        meets-next : stepOf rules edition s c
+            ≡ metLaid s c (wordAt position) bit bits (layOf rules edition (firstNumber (wordsOf s c) (wordAt position) + bit) (c .at))
+        meets-next =
+            meets rules edition s c (r .reached) inside bit (n .low (omega arith)) (omega arith) (λ b low below. inl (n .clear b low below))
+            (n .set (omega arith)) (rw (ne-eqb bit 29 other, ne-eqb bit 31 (λ e. omega (arith, e)))) ok
+
+        -- in a word that starts again the step is by where the field of the bit lies
+        pub meets-again : again ≡ true → stepOf rules edition s c ≡ metLaid s c (wordAt position) bit bits (layOf rules edition bit (c .at))
+        meets-again e =
+            let first : firstNumber (wordsOf s c) (wordAt position) ≡ 0 =
+            subst (λ (t : Bool). NumbersFrom t (firstNumber (wordsOf s c) (wordAt position))) e (r .numbers inside) in
+            let number : firstNumber (wordsOf s c) (wordAt position) + bit ≡ bit = omega (arith, first) in
+            meets-next ∙ ap (λ (k : ℕ). metLaid s c (wordAt position) bit bits (layOf rules edition k (c .at))) number
+
+        -- in a continued word it stops
+        pub meets-continued : again ≡ false → stepOf rules edition s c ≡ over (stopped (wordAt position) bit)
+        meets-continued e =
+            let first : wordBits ≤ firstNumber (wordsOf s c) (wordAt position) =
+            subst (λ (t : Bool). NumbersFrom t (firstNumber (wordsOf s c) (wordAt position))) e (r .numbers inside) in
+            let number : ℕ = firstNumber (wordsOf s c) (wordAt position) + bit in
+            meets-next
+            ∙ ap (metLaid s c (wordAt position) bit bits)
+            (lay-unknown rules number edition (c .at) (unknown-high rules edition number ok (omega (arith, first))))
+
+      pub passes-29 : bit ≡ 29 → Searches rules edition s c (wordBits * wordAt position + 30) bits again
+      passes-29 e =
+          let w : wordAt (wordBits * wordAt position + 30) ≡ wordAt position = omega arith in
+          record {
+            reached = within rules edition s c (r .reached) inside 30 (omega (arith, n .low (omega arith))) (omega arith) between;
+            numbers = λ h. subst (λ (k : ℕ). NumbersFrom again (firstNumber (wordsOf s c) k)) (sym w) (r .numbers inside);
+          }
+        where
+          between : (b : ℕ) → bitAt position ≤ b → b < 30 → (bitSet bits b ≡ false) ⊎ ((eqb b 29 || eqb b 31) ≡ true)
+          between b low below = go (decLe 29 b)
+            where
+              go : Dec (29 ≤ b) → (bitSet bits b ≡ false) ⊎ ((eqb b 29 || eqb b 31) ≡ true)
+              go (yes h) = inr (rw (eq-eqb b 29 (omega arith)))
+              go (no h) = inl (n .clear b low (omega arith))
+
+      pub next-word : 31 ≤ bit
+          → Searches rules edition s c (wordBits * wordAt position + wordBits) (numberAt little 4 s (4 + 4 * (wordAt position + 1))) (bitSet bits 29)
+      next-word h =
+          let w : suc (wordAt position) ≡ wordAt (wordBits * wordAt position + wordBits) = omega arith in
+          record {
+            reached = onward rules edition s c (r .reached) inside between;
+            numbers =
+                λ more.
+                subst (λ (k : ℕ). NumbersFrom (bitSet bits 29) (firstNumber (wordsOf s c) k)) w
+                (subst (λ (k : ℕ). NumbersFrom (bitSet k 29) (firstNumber (wordsOf s c) (suc (wordAt position)))) (r .reached .word inside)
+                (numbers-behind (wordsOf s c) (wordAt position)));
+          }
+        where
+          between : (b : ℕ) → bitAt position ≤ b → b < wordBits → (bitSet bits b ≡ false) ⊎ ((eqb b 29 || eqb b 31) ≡ true)
+          between b low below = go (decLe 31 b)
+            where
+              go : Dec (31 ≤ b) → (bitSet bits b ≡ false) ⊎ ((eqb b 29 || eqb b 31) ≡ true)
+              go (yes h′) = inr (rw (ne-eqb b 29 (λ e. omega (arith, e)), eq-eqb b 31 (omega arith)))
+              go (no h′) = inl (n .clear b low (omega arith))
+
+-- what is met at a bit answers the step that is by where the bit's field lies
+pub answers : (s : List ℕ) (c : Cursor) (word bit bits : ℕ) (lay : Layout) (r : Step) {m : Met} → MeetSays c word bit bits lay r
+    → m ≡ metLaid s c word bit bits lay → (stepSays s r ≡ m) × StepSized r
+answers s c word bit bits lay r says e = (says .0 s ∙ sym e, says .1)
 
 -- a known field is shown where it ends inside the length, and refused where it runs past it
 module _ (s : List ℕ) (c : Cursor) (word bit bits start size : ℕ) where

@@ -7,6 +7,7 @@ use mathlib.Core.Logic.{_⊎_, inl, inr}
 use mathlib.Core.List.{List}
 use native.Mathlib.Omega.{arith}
 use native.Mathlib.Decide.{decLe}
+use lib.ListN.{getD}
 use lib.Bits.{bitAnd, bitOr}
 use lib.Count.{trailingZeros}
 use Rattle.octets.specs.Numbers.{little, numberAt}
@@ -14,13 +15,16 @@ use Rattle.octets.specs.Parts.{part}
 use Rattle.radiotap_rules.specs.declared.Cursor.{Cursor}
 use Rattle.radiotap_rules.specs.Rules.{knows}
 use Rattle.radiotap_rules.specs.Table.{ourRules}
-use Rattle.radiotap_rules.specs.Reading.{fieldPast, wordBits, wordAt, bitSet, stopped}
-use Rattle.radiotap_rules.specs.Steps.{refusedStep, over, met, stepOf}
+use Rattle.radiotap_rules.specs.Reading.{fieldPast, wordBits, wordAt, bitSet, firstNumber, stopped}
+use Rattle.radiotap_rules.specs.Steps.{wordsOf, refusedStep, over, met, stepOf}
 use Rattle.radiotap_rules.specs.Answers.{lies, layOf}
 use Rattle.radiotap_table.specs.declared.Span.{Span}
 use Rattle.radiotap_table.specs.Says.{SpannedAs}
-use Rattle.radiotap_bits.specs.Bits.{KnownBits, bare, carriesField, LeftFrom, StopsAt}
+use Rattle.radiotap_rules.proofs.TableTests.{unknown-high}
+use Rattle.radiotap_rules.proofs.Numbering.{starts-at-0, known-again}
+use Rattle.radiotap_bits.specs.Bits.{bare, carriesField, LeftFrom, StopsAt, Continues}
 use Rattle.radiotap_table.proofs.RowLaws.{lay-near, lay-unknown, span-lies}
+use Rattle.radiotap_bits.proofs.SetLaws.{trailing-clear, trailing-set, trailing-below}
 use Rattle.radiotap_bits.proofs.LeftLaws.{and-not-true, first-small, first-low, first-below, first-carries, first-between, left-next, left-none}
 use Rattle.radiotap_step.specs.Met.{metLaid}
 use Rattle.radiotap_step.proofs.StepLaws.{Reached, starts, onward, meets, laid-inside, laid-past}
@@ -30,6 +34,10 @@ carries-none : (t u : Bool) → (t && not u) ≡ false → (t ≡ false) ⊎ (u 
 carries-none true true e = inr refl
 carries-none true false e = inl e
 carries-none false u e = inl refl
+
+not-and-true : (t u : Bool) → (not t && u) ≡ true → (t ≡ false) × (u ≡ true)
+not-and-true true u e = let z : _≡_ {A = ℕ} 0 1 = cc in absurd (omega arith)
+not-and-true false u e = (refl, e)
 
 -- no edition knows bit 31
 known-below : (edition bit : ℕ) → bit < wordBits → knows ourRules edition bit ≡ true → bit + 1 < wordBits
@@ -42,6 +50,12 @@ known-below edition bit h known = go (decLe 31 bit)
         let z : _≡_ {A = ℕ} 0 1 = cc same in
         absurd (omega arith)
     go (no l) = omega arith
+
+-- of the bits of a word that carry a field, an edition knows these, by the numbers that the word gives them
+abbrev pub KnownIn : (edition : ℕ) → (words : List ℕ) → (index known : ℕ) → Type 0
+KnownIn edition words index known =
+    (bit : ℕ) → bit < wordBits → carriesField (getD words index 0) bit ≡ true
+    → bitSet known bit ≡ knows ourRules edition (firstNumber words index + bit)
 
 -- a walk in an edition stands at a word: the bits that are left to be shown of it, the one that stops the walk, and the last
 -- place that is not free
@@ -75,26 +89,37 @@ module _ (edition : ℕ) (s : List ℕ) (known : ℕ) where
         free = free;
       }
 
-  module _ (knowing : KnownBits edition known) {c : Cursor} {index left stop last : ℕ} (n : Standing edition s known c index left stop last) (more : index < c .words) where
+  module _ {c : Cursor} {index left stop last : ℕ} (knowing : KnownIn edition (wordsOf s c) index known) (n : Standing edition s known c index left stop last) (more : index < c .words) where
+    -- the number of a bit of the word
+    abbrev number : ℕ → ℕ
+    number bit = firstNumber (wordsOf s c) index + bit
+
     here : wordAt (n .position) ≡ index
     here = omega (arith, n .place, n .inside)
 
+    -- the edition knows a bit that carries a field where it is one of the known
+    known-number : (bit : ℕ) → bit < wordBits → carriesField (n .bits) bit ≡ true → bitSet known bit ≡ knows ourRules edition (number bit)
+    known-number bit h carries =
+        let held : getD (wordsOf s c) index 0 ≡ n .bits = sym (ap (λ (k : ℕ). getD (wordsOf s c) k 0) here) ∙ n .reached .word (omega (arith, here)) in
+        knowing bit h (ap (λ (k : ℕ). carriesField k bit) held ∙ carries)
+
     -- the step is by the first bit from here on that carries a field
     meets-bit : (bit : ℕ) → n .from ≤ bit → bit < wordBits → ((b : ℕ) → n .from ≤ b → b < bit → carriesField (n .bits) b ≡ false)
-        → carriesField (n .bits) bit ≡ true → stepOf ourRules edition s c ≡ metLaid s c index bit (n .bits) (layOf ourRules edition bit (c .at))
+        → carriesField (n .bits) bit ≡ true
+        → stepOf ourRules edition s c ≡ metLaid s c index bit (n .bits) (layOf ourRules edition (number bit) (c .at))
     meets-bit bit low high between carries =
         let set = and-not-true (bitSet (n .bits) bit) (bare bit) carries in
         meets ourRules edition s c (n .reached) (omega (arith, here)) bit (omega (arith, n .place, n .inside)) high
         (λ b from below. carries-none (bitSet (n .bits) b) (bare b) (between b (omega (arith, n .place, n .inside)) below))
         (set .0) (set .1) refl
-        ∙ ap (λ (k : ℕ). metLaid s c k bit (n .bits) (layOf ourRules edition bit (c .at))) here
+        ∙ ap (λ (k : ℕ). metLaid s c k bit (n .bits) (layOf ourRules edition (firstNumber (wordsOf s c) k + bit) (c .at))) here
 
     -- where nothing is left to be shown, the step stops at the bit that stops the walk
     pub stops-here : left ≡ 0 → stop < wordBits → stepOf ourRules edition s c ≡ over (stopped index stop)
     stops-here none inside =
-        let strange : knows ourRules edition stop ≡ false = sym (knowing stop inside) ∙ n .stops .unknown inside in
+        let strange : knows ourRules edition (number stop) ≡ false = sym (known-number stop inside (n .stops .carries inside)) ∙ n .stops .unknown inside in
         meets-bit stop (n .low) inside (λ b low below. left-none (n .rest) none b low below (omega arith)) (n .stops .carries inside)
-        ∙ ap (metLaid s c index stop (n .bits)) (lay-unknown ourRules stop edition (c .at) strange)
+        ∙ ap (metLaid s c index stop (n .bits)) (lay-unknown ourRules (number stop) edition (c .at) strange)
 
     -- and where there is none, passes the word
     pub passes-word : left ≡ 0 → wordBits ≤ stop
@@ -112,18 +137,28 @@ module _ (edition : ℕ) (s : List ℕ) (known : ℕ) where
       pub bit-small : bit < wordBits
       bit-small = first-small (n .rest) some
 
-      bit-known : knows ourRules edition bit ≡ true
-      bit-known =
-          sym (knowing bit bit-small)
+      number-known : knows ourRules edition (number bit) ≡ true
+      number-known =
+          sym (known-number bit bit-small (first-carries (n .rest) some))
           ∙ n .stops .below bit (first-below (n .rest) some) bit-small (first-carries (n .rest) some)
+
+      -- so its word starts again, and its number is itself
+      number-itself : number bit ≡ bit
+      number-itself = omega (arith, starts-at-0 (wordsOf s c) index (known-again ourRules refl edition (wordsOf s c) index bit number-known))
+
+      bit-known : knows ourRules edition bit ≡ true
+      bit-known = sym (ap (knows ourRules edition) number-itself) ∙ number-known
 
       module _ {p : Span} (spans : SpannedAs bit p) where
         -- its field starts behind the places that its mask fills up
         abbrev pub start : ℕ
         start = bitOr last (p .mask) + 1
 
-        laid : layOf ourRules edition bit (c .at) ≡ lies start (p .size)
-        laid = ap (layOf ourRules edition bit) (n .free) ∙ span-lies edition bit last spans bit-known
+        laid : layOf ourRules edition (number bit) (c .at) ≡ lies start (p .size)
+        laid =
+            ap (λ (k : ℕ). layOf ourRules edition k (c .at)) number-itself
+            ∙ ap (layOf ourRules edition bit) (n .free)
+            ∙ span-lies edition bit last spans bit-known
 
         step : stepOf ourRules edition s c ≡ metLaid s c index bit (n .bits) (lies start (p .size))
         step =
@@ -132,7 +167,7 @@ module _ (edition : ℕ) (s : List ℕ) (known : ℕ) where
 
         -- near the last place that is not free
         pub starts-near : start < last + 9
-        starts-near = omega (arith, n .free, lay-near ourRules bit edition (c .at) start (p .size) refl laid)
+        starts-near = omega (arith, n .free, lay-near ourRules (number bit) edition (c .at) start (p .size) refl laid)
 
         -- it is refused where it runs past the length
         pub refuses-past : c .size < start + p .size → stepOf ourRules edition s c ≡ refusedStep fieldPast start
@@ -166,3 +201,37 @@ module _ (edition : ℕ) (s : List ℕ) (known : ℕ) where
           inside = known-below edition bit bit-small bit-known;
           free = free;
         }
+
+-- at the start of a continued word some of its bits carry a field: the lowest of them stops the walk
+pub stops-continued : (edition : ℕ) (s : List ℕ) {c : Cursor} {word strange : ℕ} (before index : ℕ) → Reached ourRules edition s c (wordBits * index) word
+    → index < c .words → (bitSet before 29 ≡ false → wordBits ≤ firstNumber (wordsOf s c) index) → Continues before word strange
+    → (strange ≡ 0 → ⊥) → stepOf ourRules edition s c ≡ over (stopped index (trailingZeros wordBits strange))
+stops-continued edition s {c} {word} {strange} before index reached more on told some =
+    meets ourRules edition s c reached (omega (arith, here)) stop (omega arith) inside
+    (λ b low below. carries-none (bitSet word b) (bare b) (clear b (omega (arith, inside)) below)) (set .0) (set .1) refl
+    ∙ ap (λ (k : ℕ). metLaid s c k stop word (layOf ourRules edition (firstNumber (wordsOf s c) k + stop) (c .at))) here
+    ∙ ap (metLaid s c index stop word) (lay-unknown ourRules number edition (c .at) (unknown-high ourRules edition number refl (omega (arith, on (both .0)))))
+  where
+    stop : ℕ
+    stop = trailingZeros wordBits strange
+
+    number : ℕ
+    number = firstNumber (wordsOf s c) index + stop
+
+    here : wordAt (wordBits * index) ≡ index
+    here = omega arith
+
+    inside : stop < wordBits
+    inside = trailing-below wordBits wordBits strange (omega arith) (omega arith) (told .small)
+
+    -- the lowest is set, so bit 29 before is clear and the bit carries a field
+    both : (bitSet before 29 ≡ false) × (carriesField word stop ≡ true)
+    both = not-and-true (bitSet before 29) (carriesField word stop) (sym (told .told stop inside) ∙ trailing-set wordBits strange inside)
+
+    set : (bitSet word stop ≡ true) × (bare stop ≡ false)
+    set = and-not-true (bitSet word stop) (bare stop) (both .1)
+
+    -- and none below it carries one
+    clear : (b : ℕ) → b < wordBits → b < stop → carriesField word b ≡ false
+    clear b high below =
+        ap (λ (t : Bool). not t && carriesField word b) (sym (both .0)) ∙ sym (told .told b high) ∙ trailing-clear wordBits strange b below

@@ -1,11 +1,12 @@
--- What a step meets at a set bit, by where the bit's field lies.
-use Prim.Native.Nat.{ℕ, _+_, _*_}
-use mathlib.Core.Bool.{cond}
+-- What a step meets at a set bit, by where the bit's field lies, and whether a word starts again.
+use Prim.Native.Nat.{ℕ, zero, suc, _+_, _*_}
+use mathlib.Core.Bool.{Bool, true, cond}
 use mathlib.Core.List.{List}
 use lib.Dec.{leb}
+use Rattle.octets.specs.Numbers.{little, numberAt}
 use Rattle.octets.specs.Parts.{part}
 use Rattle.radiotap_rules.specs.declared.Cursor.{Cursor}
-use Rattle.radiotap_rules.specs.Reading.{fieldPast, wordBits, stopped}
+use Rattle.radiotap_rules.specs.Reading.{fieldPast, bitSet, wordBits, stopped}
 use Rattle.radiotap_rules.specs.Steps.{Met, refusedStep, over, met}
 use Rattle.radiotap_rules.specs.Answers.{Layout, unknownField, lies}
 
@@ -18,3 +19,8 @@ metLaid s c word bit bits (lies start size) =
     (record { word = word; bit = bit; place = start; octets = part s start size })
     (record { size = c .size; words = c .words; position = wordBits * word + bit + 1; bits = bits; at = start + size }))
     (refusedStep fieldPast start)
+
+-- whether a word starts again by bit 29 of the word before it in the input; word 0 does
+abbrev pub startsIn : List ℕ → (word : ℕ) → Bool
+startsIn s zero = true
+startsIn s (suc n) = bitSet (numberAt little 4 s (4 + 4 * n)) 29

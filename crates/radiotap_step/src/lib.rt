@@ -5,6 +5,7 @@ ghost use Rattle.radiotap_rules.specs.Table.{ourRules};
 ghost use Rattle.radiotap_rules.specs.Steps.{stepOf};
 ghost use Rattle.radiotap_rules.specs.Answers.{lies, layOf};
 ghost use Rattle.radiotap_step.specs.Asked.{stepIn};
+ghost use Rattle.radiotap_step.specs.Met.{startsIn};
 ghost use Rattle.radiotap_step.specs.Says.{stepSays, StepSized, MeetSays};
 use radiotap_rules::Cursor;
 use radiotap_table::EDITION_ABOVE;
@@ -47,30 +48,45 @@ pub fn next(s: &[u8], edition: u32, cursor: Cursor) -> Step
 }
 
 // Steps from a cursor to the next field in the edition taken, which a walk judges once and not at each step: from set bit
-// to set bit of the presence word that the cursor holds.
+// to set bit of the presence word that the cursor holds. No field of a continued word is known.
 pub fn next_taken(s: &[u8], taken: u32, cursor: Cursor) -> Step
     ensures { λ r. ⌜ stepSays (now (s .entry)) r ≡ stepOf ourRules taken (now (s .entry)) cursor ⌝ }
     ensures { λ r. ⌜ StepSized r ⌝ }
 {
     let mut position = cursor.position;
     let mut bits = cursor.bits;
+    let mut again = starts_again(s, position / 32);
     while position / 32 < cursor.words as u32 {
         let word = position / 32;
         let bit = radiotap_bits::next_set(bits, position % 32);
         if bit < 31 {
             if bit != 29 {
-                return meet(taken, cursor, word, bit, bits);
+                if again {
+                    return meet(taken, cursor, word, bit, bits);
+                }
+                return Step::Stop { word, bit };
             }
             position = 32 * word + 30;
         } else {
             position = 32 * word + 32;
+            again = radiotap_bits::resets(bits);
             bits = number_at::le32(s, 4 + 4 * (word as usize + 1));
         }
     }
     Step::End
 }
 
-// What a step meets at a set bit of a word, whose bits are held, in the edition taken.
+// Whether a word numbers its bits from 0 again: word 0 does, and another by the word before it in the input.
+fn starts_again(s: &[u8], word: u32) -> bool
+    ensures { λ r. ⌜ r ≡ startsIn (now (s .entry)) word ⌝ }
+{
+    if word == 0 {
+        return true;
+    }
+    radiotap_bits::resets(number_at::le32(s, 4 * word as usize))
+}
+
+// What a step meets at a set bit of a word that starts again, whose bits are held, in the edition taken.
 fn meet(taken: u32, cursor: Cursor, word: u32, bit: u32, bits: u32) -> Step
     requires { ⌜ (word < 256) × (bit < 31) ⌝ }
     ensures { λ r. ⌜ MeetSays cursor word bit bits (layOf ourRules taken bit (cursor .at)) r ⌝ }

@@ -26,8 +26,9 @@ pub const FIXED_HEADER: usize = BEFORE_WORDS + WORD;
 /// The most presence words.
 pub const WORDS: usize = 8;
 
-/// The bits of a word that carry no field; the last calls for another word.
-const NO_FIELD: [u32; 2] = [29, ANOTHER_WORD];
+/// The bits of a word that carry no field: one resets the namespace for the next word, one calls for another word.
+const NO_FIELD: [u32; 2] = [RESET, ANOTHER_WORD];
+const RESET: u32 = 29;
 const ANOTHER_WORD: u32 = 31;
 
 /// The bits whose fields are signed dBm.
@@ -41,9 +42,9 @@ pub struct Row {
     pub edition: u32,
 }
 
-/// The table's row for a bit; none for a bit that no edition knows.
-pub fn row(bit: u32) -> Option<Row> {
-    let (alignment, size, edition) = match bit {
+/// The table's row for a field's number; none for one that no edition knows.
+pub fn row(number: u32) -> Option<Row> {
+    let (alignment, size, edition) = match number {
         0 => (8, 8, 1),                       // TSFT
         1 | 2 | 5 | 6 | 10..=13 => (1, 1, 1), // flags, rate, signal, noise, power, antenna
         3 => (2, 4, 1),                       // channel
@@ -62,9 +63,9 @@ pub fn row(bit: u32) -> Option<Row> {
     })
 }
 
-/// The row for a bit where the edition knows it.
-fn known(bit: u32, edition: u32) -> Option<Row> {
-    row(bit).filter(|row| row.edition <= edition)
+/// The row for a field's number where the edition knows it.
+fn known(number: u32, edition: u32) -> Option<Row> {
+    row(number).filter(|row| row.edition <= edition)
 }
 
 /// The edition that a number asks for.
@@ -171,8 +172,8 @@ pub fn read(input: &[u8], edition: u32) -> Result<Reading<'_>, Refusal> {
     let header = read_header(input)?;
     let (mut fields, mut ending) = (Vec::new(), Ending::End);
     let mut place = BEFORE_WORDS + WORD * header.words.len();
-    for (word, bit) in positions(&header.words) {
-        let Some(row) = known(bit, edition) else {
+    for Position { word, bit, number } in positions(&header.words) {
+        let Some(row) = known(number, edition) else {
             ending = Ending::Stop { word, bit };
             break;
         };
@@ -196,11 +197,30 @@ pub fn read(input: &[u8], edition: u32) -> Result<Reading<'_>, Refusal> {
     })
 }
 
-/// Word and bit of the set bits that can carry a field, in their order.
-fn positions(words: &[u32]) -> impl Iterator<Item = (usize, u32)> + '_ {
-    let set = |(word, presence): (usize, &u32)| set_bits(*presence).map(move |bit| (word, bit));
-    let all = words.iter().enumerate().flat_map(set);
-    all.filter(|(_, bit)| !NO_FIELD.contains(bit))
+/// A set bit that can carry a field: its word, the bit, and the field's number in the table.
+struct Position {
+    word: usize,
+    bit: u32,
+    number: u32,
+}
+
+/// The set bits that can carry a field, in their order.
+fn positions(words: &[u32]) -> Vec<Position> {
+    let mut positions = Vec::new();
+    let mut first = 0;
+    for (word, presence) in words.iter().enumerate() {
+        let carrying = set_bits(*presence).filter(|bit| !NO_FIELD.contains(bit));
+        positions.extend(carrying.map(|bit| Position {
+            word,
+            bit,
+            number: first + bit,
+        }));
+        first = match presence & (1 << RESET) {
+            0 => first + u32::BITS,
+            _ => 0,
+        };
+    }
+    positions
 }
 
 /// The presence word with a number; `None` is "end".

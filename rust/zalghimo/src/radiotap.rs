@@ -52,6 +52,10 @@
 //! Bits 18, 22 to 28 and 30 stop the reading in every edition; bits 29 and 31 carry no field. Bits 5, 6 and 10 are
 //! signed dBm.
 //!
+//! A presence word numbers its bits from 0 where it is the first, or where the word before it has bit 29 set. Another
+//! word is continued: its bits go on past the table, so that each of its bits 0 to 28 stops the reading in every edition,
+//! and [`name`] does not name them. Before request W-205 every word numbered its bits from 0.
+//!
 //! A field starts at the next multiple of its alignment, counted from the header's start. A writer takes the values
 //! packed: one after another in bit order, each of its size, without the octets between them. What it writes has 8
 //! octets and then the fields, each at its place, and ends with the last one. All fields of edition 3 take 68 octets,

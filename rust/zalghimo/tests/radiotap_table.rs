@@ -7,7 +7,7 @@ use zalghimo::radiotap::{self, Ending, Header};
 
 /// A header whose field of this bit is the first after 17 octets, where each alignment gives another start.
 fn after_17(bit: u32) -> Vec<u8> {
-    made::radiotap(&[0x8000_0002, 0x8000_0000, 1 << bit], 64)
+    made::radiotap(&[0xA000_0002, 0xA000_0000, 1 << bit], 64)
 }
 
 #[test]
@@ -44,6 +44,21 @@ fn bits_without_a_row_stop_the_reading_or_carry_no_field() {
             _ => Ending::Stop { word: 2, bit },
         };
         assert_eq!((header.ending(), header.fields().len()), (ending, 1));
+    }
+}
+
+#[test]
+fn bits_of_a_continued_word_stop_the_reading_or_carry_no_field() {
+    for bit in 0..31 {
+        let octets = made::radiotap(&[0x8000_0002, 1 << bit], 64);
+        let ending = match bit {
+            29 => Ending::End,
+            _ => Ending::Stop { word: 1, bit },
+        };
+        for edition in 0..=3 {
+            let header = Header::read(&octets, edition).expect("accepted");
+            assert_eq!((header.ending(), header.fields().len()), (ending, 1));
+        }
     }
 }
 

@@ -4,7 +4,7 @@
 use Prim.Native.Nat.{_+_, _-_, _*_, _^_, _≤_, _<_}
 use native.Mathlib.Omega.{arith}
 use mathlib.Core.Path.{sym, ap}
-use lib.ListN.{length}
+use lib.ListN.{length, getD}
 use lib.Bits.{bitOr, and-le-r}
 use lib.Count.{trailingZeros}
 use denote.Ref.{now}
@@ -17,7 +17,7 @@ use Rattle.radiotap_table.specs.Says.{SpannedAs}
 use Rattle.radiotap_table.proofs.RowLaws.{row-spans}
 use Rattle.radiotap.specs.Outcomes.{summarised}
 use Rattle.radiotap.proofs.WalkLaws.{refuses, finishes}
-use Rattle.radiotap.proofs.CountLaws.{AtWord, Counting, word-first, few-words, few-fields, word-last, word-followed, word-opens, stop-inside, stop-none, counts-stop, counts-end, counts-word, counts-small, counts-near, counts-past, counts-next}
+use Rattle.radiotap.proofs.CountLaws.{AtWord, Counting, word-first, few-words, few-fields, held, word-last, word-followed, word-opens, stop-inside, stop-none, counts-stop, counts-end, counts-strange, counts-word, counts-small, counts-near, counts-past, counts-next}
 use Rattle.radiotap.proofs.count.Statement.{statement}
 use Rattle.radiotap.proofs.count.Tie as tie
 
@@ -104,8 +104,8 @@ cast-last-2 c = search needs
 add-last-2 : tie.Need-add-last-2 Inv-loop2 μ-loop2 Inv-loop μ-loop
 add-last-2 c = omega (arith, near (c .before .before), c .struct-known4 .given)
 
-add-t27 : tie.Need-add-t27 Inv-loop2 μ-loop2 Inv-loop μ-loop
-add-t27 c = omega (arith, near (c .before .before .before))
+add-t29 : tie.Need-add-t29 Inv-loop2 μ-loop2 Inv-loop μ-loop
+add-t29 c = omega (arith, near (c .before .before .before))
 
 returns : tie.Need-returns Inv-loop2 μ-loop2 Inv-loop μ-loop
 returns c =
@@ -204,16 +204,30 @@ shared-slice-read-join32-4 c = omega (arith, inside (c .before .before .before .
 join32-requires : tie.Need-join32-requires Inv-loop2 μ-loop2 Inv-loop μ-loop
 join32-requires c κs = search needs
 
+continued-requires : tie.Need-continued-requires Inv-loop2 μ-loop2 Inv-loop μ-loop
+continued-requires c κs = search needs
+
+returns-4 : tie.Need-returns-4 Inv-loop2 μ-loop2 Inv-loop μ-loop
+unfolding numberAt number
+returns-4 c =
+    let a = c .before .before .before .before .before .before .before .before .before .before .before .before .before .before .before .before .before .before .before .before .args in
+    let w = c .before .before .before .before .before .before .before .before .before .before .before .loop2 .inv .1 in
+    let known = c .before .before .before .before .before .before .before .before .before .before .before .before .before .before .before .before .before .known .result in
+    let past = stop-none (a .taken) (now (a .s)) known (c .before .before .before .before .before .before .before .before .if2 .left) in
+    let step = counts-strange (a .taken) (now (a .s)) known w (c .before .before .before .before .before .before .before .before .before .before .loop2-test .left) past (more (c .before .before .before .before .before .before .before)) (c .before .before .join32 .ensures) (held (a .taken) (now (a .s)) known (c .before .before .before .before .before .before .before .before .before .before .before .before .before .loop .inv .1)) (c .before .continued .ensures) (c .if4 .taken) in
+    rw (c .before .before .before .before .before .before .before .before .before .before .before .before .before .before .before .before .octet .ensures) (sym (ap (summarised (getD (now (a .s)) 1 0) (a .head)) (finishes ourRules (a .taken) (now (a .s)) 0 (w .sofar .found) step)))
+
 loop-less : tie.Need-loop-less Inv-loop2 μ-loop2 Inv-loop μ-loop
-loop-less c = omega (arith, c .before .before .before .before .before .before .before .before .before .loop2 .inv .1 .sofar .more)
+loop-less c = omega (arith, c .before .before .before .before .before .before .before .before .before .before .before .loop2 .inv .1 .sofar .more)
 
 loop-again : tie.Need-loop-again Inv-loop2 μ-loop2 Inv-loop μ-loop
 unfolding numberAt number
 loop-again c =
-    let a = c .before .before .before .before .before .before .before .before .before .before .before .before .before .before .before .before .before .before .args in
-    let known = c .before .before .before .before .before .before .before .before .before .before .before .before .before .before .before .known .result in
-    let past = stop-none (a .taken) (now (a .s)) known (c .before .before .before .before .before .before .if2 .left) in
-    (_, counts-word (a .taken) (now (a .s)) known (c .before .before .before .before .before .before .before .before .before .loop2 .inv .1) (c .before .before .before .before .before .before .before .before .loop2-test .left) past (more (c .before .before .before .before .before)) (c .join32 .ensures))
+    let a = c .before .before .before .before .before .before .before .before .before .before .before .before .before .before .before .before .before .before .before .before .args in
+    let w = c .before .before .before .before .before .before .before .before .before .before .before .loop2 .inv .1 in
+    let known = c .before .before .before .before .before .before .before .before .before .before .before .before .before .before .before .before .before .known .result in
+    let past = stop-none (a .taken) (now (a .s)) known (c .before .before .before .before .before .before .before .before .if2 .left) in
+    (_, counts-word (a .taken) (now (a .s)) known w (c .before .before .before .before .before .before .before .before .before .before .loop2-test .left) past (more (c .before .before .before .before .before .before .before)) (c .before .before .join32 .ensures) (held (a .taken) (now (a .s)) known (c .before .before .before .before .before .before .before .before .before .before .before .before .before .loop .inv .1)) (c .before .continued .ensures) (c .before .before .before .before .before .before .before .before .before .before .before .before .before .before .before .before .before .known .ensures) (c .if4 .left))
 
 pub count-spec : {M : Type 1} → statement M
 count-spec =
@@ -239,7 +253,7 @@ count-spec =
     span-of-requires
     cast-last-2
     add-last-2
-    add-t27
+    add-t29
     returns
     add-fields
     sub-left
@@ -260,5 +274,7 @@ count-spec =
     add-join32-4
     shared-slice-read-join32-4
     join32-requires
+    continued-requires
+    returns-4
     loop-less
     loop-again)

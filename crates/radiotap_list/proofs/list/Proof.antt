@@ -7,7 +7,7 @@ use native.Mathlib.Nat.{zero-min}
 use mathlib.Core.Path.{_≡_, refl, sym, ap, _∙_, subst}
 use mathlib.Core.List.{List}
 use mathlib.Core.Logic.{⊎-elim}
-use lib.ListN.{length}
+use lib.ListN.{length, getD}
 use lib.Bits.{bitOr, and-le-r}
 use lib.Count.{trailingZeros}
 use denote.Ref.{now}
@@ -22,7 +22,7 @@ use Rattle.radiotap_table.proofs.RowLaws.{row-spans}
 use Rattle.radiotap.specs.Outcomes.{summarised}
 use Rattle.radiotap.proofs.WalkLaws.{head-inside}
 use Rattle.radiotap.proofs.WalkLaws.{refuses as walk-refuses, finishes as walk-finishes}
-use Rattle.radiotap.proofs.CountLaws.{AtWord, Counting, word-first, few-words, few-fields, word-last, word-followed, word-opens, stop-inside, stop-none, counts-stop, counts-end, counts-word, counts-small, counts-near, counts-past, counts-field, counts-next}
+use Rattle.radiotap.proofs.CountLaws.{AtWord, Counting, word-first, few-words, few-fields, held, word-last, word-followed, word-opens, stop-inside, stop-none, counts-stop, counts-end, counts-strange, counts-word, counts-small, counts-near, counts-past, counts-field, counts-next}
 use Rattle.radiotap_list.proofs.ListLaws.{SoFar, Filled, filled, rebased, begins, keeps-length, refuses, finishes, puts, skips}
 use Rattle.radiotap_list.proofs.list.Statement.{statement}
 use Rattle.radiotap_list.proofs.list.Tie as tie
@@ -130,8 +130,8 @@ cast-last-2 c = search needs
 add-last-2 : tie.Need-add-last-2 Inv-loop2 μ-loop2 Inv-loop μ-loop
 add-last-2 c = omega (arith, near (c .before .before), c .struct-known4 .given)
 
-add-t28 : tie.Need-add-t28 Inv-loop2 μ-loop2 Inv-loop μ-loop
-add-t28 c = omega (arith, near (c .before .before .before))
+add-t30 : tie.Need-add-t30 Inv-loop2 μ-loop2 Inv-loop μ-loop
+add-t30 c = omega (arith, near (c .before .before .before))
 
 same-length : tie.Need-same-length Inv-loop2 μ-loop2 Inv-loop μ-loop
 same-length c = stays (c .before .before .before .before .before .before)
@@ -264,16 +264,35 @@ shared-slice-read-join32-4 c = omega (arith, inside (c .before .before .before .
 join32-requires : tie.Need-join32-requires Inv-loop2 μ-loop2 Inv-loop μ-loop
 join32-requires c κs = search needs
 
+continued-requires : tie.Need-continued-requires Inv-loop2 μ-loop2 Inv-loop μ-loop
+continued-requires c κs = search needs
+
+same-length-4 : tie.Need-same-length-4 Inv-loop2 μ-loop2 Inv-loop μ-loop
+same-length-4 c = stays (c .before .before .before .before .before .before .before .before .before .before .before)
+
+returns-4 : tie.Need-returns-4 Inv-loop2 μ-loop2 Inv-loop μ-loop
+unfolding numberAt number
+returns-4 c =
+    let a = c .before .before .before .before .before .before .before .before .before .before .before .before .before .before .before .before .before .before .before .before .args in
+    let w = c .before .before .before .before .before .before .before .before .before .before .before .loop2 .inv .1 in
+    let known = c .before .before .before .before .before .before .before .before .before .before .before .before .before .before .before .before .before .known .result in
+    let past = stop-none (a .taken) (now (a .s)) known (c .before .before .before .before .before .before .before .before .if3 .left) in
+    let step = counts-strange (a .taken) (now (a .s)) known w (c .before .before .before .before .before .before .before .before .before .before .loop2-test .left) past (more (c .before .before .before .before .before .before .before)) (c .before .before .join32 .ensures) (held (a .taken) (now (a .s)) known (c .before .before .before .before .before .before .before .before .before .before .before .before .before .loop .inv .1)) (c .before .continued .ensures) (c .if5 .taken) in (
+      rw (c .before .before .before .before .before .before .before .before .before .before .before .before .before .before .before .before .octet .ensures) (sym (ap (summarised (getD (now (a .s)) 1 0) (a .head)) (walk-finishes ourRules (a .taken) (now (a .s)) 0 (w .sofar .found) step))),
+      finishes ourRules (a .taken) (now (a .s)) (a .room) (firstCursor (a .head)) (now (a .out)) (holds (c .before .before .before .before .before .before .before .before .before .before .before)) step,
+    )
+
 loop-less : tie.Need-loop-less Inv-loop2 μ-loop2 Inv-loop μ-loop
-loop-less c = omega (arith, c .before .before .before .before .before .before .before .before .before .loop2 .inv .1 .sofar .more)
+loop-less c = omega (arith, c .before .before .before .before .before .before .before .before .before .before .before .loop2 .inv .1 .sofar .more)
 
 loop-again : tie.Need-loop-again Inv-loop2 μ-loop2 Inv-loop μ-loop
 unfolding numberAt number
 loop-again c =
-    let a = c .before .before .before .before .before .before .before .before .before .before .before .before .before .before .before .before .before .before .args in
-    let known = c .before .before .before .before .before .before .before .before .before .before .before .before .before .before .before .known .result in
-    let past = stop-none (a .taken) (now (a .s)) known (c .before .before .before .before .before .before .if3 .left) in
-    (_, counts-word (a .taken) (now (a .s)) known (c .before .before .before .before .before .before .before .before .before .loop2 .inv .1) (c .before .before .before .before .before .before .before .before .loop2-test .left) past (more (c .before .before .before .before .before)) (c .join32 .ensures), holds (c .before .before .before .before .before .before .before .before .before))
+    let a = c .before .before .before .before .before .before .before .before .before .before .before .before .before .before .before .before .before .before .before .before .args in
+    let w = c .before .before .before .before .before .before .before .before .before .before .before .loop2 .inv .1 in
+    let known = c .before .before .before .before .before .before .before .before .before .before .before .before .before .before .before .before .before .known .result in
+    let past = stop-none (a .taken) (now (a .s)) known (c .before .before .before .before .before .before .before .before .if3 .left) in
+    (_, counts-word (a .taken) (now (a .s)) known w (c .before .before .before .before .before .before .before .before .before .before .loop2-test .left) past (more (c .before .before .before .before .before .before .before)) (c .before .before .join32 .ensures) (held (a .taken) (now (a .s)) known (c .before .before .before .before .before .before .before .before .before .before .before .before .before .loop .inv .1)) (c .before .continued .ensures) (c .before .before .before .before .before .before .before .before .before .before .before .before .before .before .before .before .before .known .ensures) (c .if5 .left), holds (c .before .before .before .before .before .before .before .before .before .before .before))
 
 pub list-spec : {M : Type 1} → statement M
 list-spec =
@@ -298,7 +317,7 @@ list-spec =
     span-of-requires
     cast-last-2
     add-last-2
-    add-t28
+    add-t30
     same-length
     returns
     mul-put
@@ -325,5 +344,8 @@ list-spec =
     add-join32-4
     shared-slice-read-join32-4
     join32-requires
+    continued-requires
+    same-length-4
+    returns-4
     loop-less
     loop-again)

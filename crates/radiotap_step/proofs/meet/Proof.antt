@@ -1,11 +1,13 @@
 -- `radiotap_step::meet` meets its contract: the answer is that of where the bit's field lies.
 -- Assumes nothing.
 use native.Mathlib.Omega.{arith}
-use mathlib.Core.Path.{_≡_, refl, sym, ap, _∙_}
+use mathlib.Core.Path.{_≡_, refl, sym, ap, _∙_, subst}
 use Rattle.radiotap_rules.specs.Table.{ourRules}
 use Rattle.radiotap_rules.specs.Answers.{lies, layOf}
+use Rattle.radiotap_rules.specs.Answers.{Layout as LayoutOf}
 use Rattle.radiotap_table.specs.Says.{laySays}
 use Rattle.radiotap_step.specs.Met.{metLaid}
+use Rattle.radiotap_step.specs.Says.{MeetSays}
 use Rattle.radiotap_table.proofs.RowLaws.{lay-near}
 use borrow.Author.Needs.{needs}
 use Rattle.radiotap_step.proofs.meet.Statement.{statement}
@@ -37,7 +39,7 @@ returns-2 : tie.Need-returns-2
 returns-2 c =
     let a = c .before .before .before .before .before .args in
     let laid = sym (ap laySays (c .before .before .start .given .1)) ∙ c .before .before .before .before .lay .ensures in
-    (λ s. c .found .ensures .0 s ∙ ap (metLaid s (a .cursor) (a .word) (a .bit) (a .bits)) laid, c .found .ensures .1)
+    subst (λ (lay : LayoutOf). MeetSays (a .cursor) (a .word) (a .bit) (a .bits) lay (c .found .result)) laid (c .found .ensures)
 
 pub meet-spec : {M : Type 1} → statement M
 meet-spec =

@@ -1,25 +1,54 @@
 //! Asks library and model the same question and compares the answers.
 
 use super::ffi;
-use super::made::Values;
+use super::made::{Values, RESET};
 use crate::lent::Lent;
 use crate::report::Hex;
 use crate::Session;
-use model::radiotap;
+use model::radiotap::{self, Ending, Reading};
+use model::refusal::Refusal;
 use model::rows::{radiotap as rows, written};
 
 /// Whole header; tells how many fields the library shows.
 pub fn read(session: &mut Session, input: &[u8], edition: u32) -> usize {
     let mut lent = Lent::new(&mut session.prng, input);
     let library = ffi::read(lent.lend(), edition);
-    let model = rows::reading(&radiotap::read(input, edition));
+    let model = radiotap::read(input, edition);
     session.report.compare(
-        "zalghimo_radiotap_read",
+        read_of(&model),
         || format!("input {} edition {edition}", Hex(input)),
         (library, lent.seen()),
-        (model, lent.wanted()),
+        (rows::reading(&model), lent.wanted()),
     );
     library[3] as usize
+}
+
+/// The function that reads a header whole, and how the words that it read number their bits.
+fn read_of(answer: &Result<Reading, Refusal>) -> &'static str {
+    let Ok(reading) = answer else {
+        return "zalghimo_radiotap_read, refused";
+    };
+    let words = &reading.header.words;
+    let continued = |index: usize| index > 0 && words[index - 1] & RESET == 0;
+    if words.len() == 1 {
+        return "zalghimo_radiotap_read, 1 word";
+    }
+    if !(0..words.len()).any(continued) {
+        return "zalghimo_radiotap_read, 2 to 8 words, all start again";
+    }
+    match reading.ending {
+        Ending::Stop { word, .. } if continued(word) => {
+            "zalghimo_radiotap_read, 2 to 8 words, stopped in a continued one"
+        }
+        _ if reading
+            .fields
+            .iter()
+            .any(|field| (0..field.word).any(continued)) =>
+        {
+            "zalghimo_radiotap_read, 2 to 8 words, fields behind a continued one"
+        }
+        _ => "zalghimo_radiotap_read, 2 to 8 words, others with a continued one",
+    }
 }
 
 /// Presence word with a number.

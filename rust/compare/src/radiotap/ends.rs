@@ -2,7 +2,7 @@
 
 use super::ask;
 use super::editions;
-use super::made::{self, Values, EDITIONS, KNOWN};
+use super::made::{self, Values, ANOTHER, EDITIONS, KNOWN, RESET};
 use crate::places::HUGE;
 use crate::Session;
 use model::radiotap::row;
@@ -16,20 +16,22 @@ pub fn all(session: &mut Session) {
     bits(session);
     after_one_octet(session);
     words(session);
+    chained_words(session);
     numbers(session);
     buffers(session);
     write_bits(session);
     write_rooms(session);
 }
 
-/// The headers of P8 to P11, and one with a field of every row, each with a frame behind.
+/// The headers of P8 to P11, one with a field of every row, and one with a continued word, each with a frame behind.
 fn headers() -> Vec<Vec<u8>> {
-    let words: [(&[u32], usize); 5] = [
+    let words: [(&[u32], usize); 6] = [
         (&[0x0000_002F], 23),
         (&[0xA000_0001, 0x0000_0020], 25),
         (&[0x0000_4002], 12),
         (&[0x0000_4002], 11),
         (&[KNOWN[2]], 74),
+        (&[0x8000_0002, 0xA000_0000, 0x0000_0024], 20),
     ];
     let header = |(words, length)| [made::header(words, length), vec![0xC0; 5]].concat();
     words.map(header).to_vec()
@@ -118,8 +120,13 @@ fn bits(session: &mut Session) {
 /// Every bit of a second word after a field of one octet in the first.
 fn after_one_octet(session: &mut Session) {
     for bit in 0..32 {
-        for first in [1 << 1, 1 << 1 | 1 << 2, 1 << 29 | 1 << 19] {
-            let words = [1 << 31 | first, 1 << bit];
+        for first in [
+            1 << 1,
+            RESET | 1 << 1,
+            RESET | 1 << 1 | 1 << 2,
+            RESET | 1 << 19,
+        ] {
+            let words = [ANOTHER | first, 1 << bit];
             let exact = made::end(&words, 3);
             for length in exact - 12..=exact + 1 {
                 read(session, &made::header(&words, length));
@@ -131,8 +138,14 @@ fn after_one_octet(session: &mut Session) {
 /// One to nine words with lengths around their end; the last calls for another or not.
 fn words(session: &mut Session) {
     for count in 1..=9 {
-        for last in [0, 1 << 5, 1 << 31, u32::MAX] {
-            let mut words = vec![1 << 31; count];
+        for (before, last) in [
+            (ANOTHER, 0),
+            (ANOTHER, 1 << 5),
+            (ANOTHER | RESET, 1 << 5),
+            (ANOTHER, ANOTHER),
+            (ANOTHER, u32::MAX),
+        ] {
+            let mut words = vec![before; count];
             words[count - 1] = last;
             let end = 4 + 4 * count;
             for length in end - 4..=end + 5 {
@@ -141,6 +154,21 @@ fn words(session: &mut Session) {
                 for number in 3..=10 {
                     ask::word(session, &input, number);
                 }
+            }
+        }
+    }
+}
+
+/// Eight words, each but the last with bit 29 or without, in every way; the last has a bit that shows or stops, or none.
+fn chained_words(session: &mut Session) {
+    for resets in 0..128 {
+        for last in [0, 1 << 1, 1 << 28, 1 << 30, RESET | 1 << 1] {
+            let reset = |index: u32| if resets >> index & 1 == 1 { RESET } else { 0 };
+            let mut words: Vec<u32> = (0..7).map(|index| ANOTHER | reset(index)).collect();
+            words.push(last);
+            let exact = made::end(&words, 3);
+            for length in [exact, exact + 1] {
+                read(session, &made::header(&words, length));
             }
         }
     }

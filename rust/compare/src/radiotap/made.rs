@@ -12,6 +12,10 @@ pub const KNOWN: [u32; 3] = [0x0000_3FFF, 0x0003_FFFF, 0x003B_FFFF];
 /// The bits below 29 that no edition knows.
 pub const UNKNOWN: [u32; 8] = [18, 22, 23, 24, 25, 26, 27, 28];
 
+/// The bits that let the next word start again, and that call for another.
+pub const RESET: u32 = 1 << 29;
+pub const ANOTHER: u32 = 1 << 31;
+
 /// Editions asked for: the default, those served, and past them.
 pub const EDITIONS: [u32; 6] = [0, 1, 2, 3, 4, u32::MAX];
 
@@ -59,7 +63,7 @@ fn presence(prng: &mut Prng) -> u32 {
         word |= 1 << 30;
     }
     if prng.one_in(4) {
-        word |= 1 << 29;
+        word |= RESET;
     }
     word
 }
@@ -74,25 +78,50 @@ fn words(prng: &mut Prng) -> Vec<u32> {
         _ => 1 + prng.below(9),
     };
     let mut words: Vec<u32> = (0..count).map(|_| presence(prng)).collect();
-    words[..count - 1]
-        .iter_mut()
-        .for_each(|word| *word |= 1 << 31);
+    for word in &mut words[..count - 1] {
+        *word |= ANOTHER;
+    }
+    if prng.one_in(2) {
+        for word in &mut words[..count - 1] {
+            *word |= RESET;
+        }
+    } else {
+        number_on(prng, &mut words);
+    }
     words
 }
 
-/// The parts of a header that the fields take, up to a bit that the edition doesn't know.
+/// Most words that don't start again carry nothing, so that those behind them are read too; half of the time no other bit
+/// stops a reading.
+fn number_on(prng: &mut Prng, words: &mut [u32]) {
+    if prng.one_in(2) {
+        for word in &mut *words {
+            *word &= KNOWN[0] | RESET | ANOTHER;
+        }
+    }
+    for index in 1..words.len() {
+        if words[index - 1] & RESET == 0 && !prng.one_in(4) {
+            words[index] &= ANOTHER;
+            words[index] |= prng.pick(&[0, RESET]);
+        }
+    }
+}
+
+/// The parts of a header that the fields take, up to a bit that stops a reading in the edition.
 fn layout(words: &[u32], edition: u32) -> Vec<Range<usize>> {
     let mut parts = Vec::new();
     let mut place = 4 + 4 * words.len();
+    let mut again = true;
     for word in words {
         for bit in (0..31).filter(|bit| *bit != 29 && word >> bit & 1 == 1) {
-            let Some(row) = row(bit).filter(|row| row.edition <= edition) else {
+            let Some(row) = row(bit).filter(|row| again && row.edition <= edition) else {
                 return parts;
             };
             let gap = (row.alignment - place % row.alignment) % row.alignment;
             place += gap + row.size;
             parts.push(place - row.size..place);
         }
+        again = word & RESET != 0;
     }
     parts
 }
@@ -181,9 +210,10 @@ fn damage(prng: &mut Prng, octets: &mut Vec<u8>) {
     }
 }
 
-/// Changes one bit of the first presence word.
+/// Changes one bit of the first or second presence word.
 fn flip_bit(prng: &mut Prng, octets: &mut [u8]) {
-    if let Some(word) = octets.get_mut(4..8) {
+    let place = prng.pick(&[4, 4, 8]);
+    if let Some(word) = octets.get_mut(place..place + 4) {
         word[prng.below(4)] ^= 1 << prng.below(8);
     }
 }

@@ -5,16 +5,19 @@ use super::pdml::Shown;
 use crate::library;
 use std::collections::BTreeMap;
 
-/// Where bits are numbered from 0 again behind a word.
+/// Where the bits of the next word are numbered from 0 again.
 const FROM_0: u32 = 1 << 29;
 
-/// What agreed: parts of fields by name, headers, and headers compared in part.
+/// The bit of a vendor's fields, which tshark passes over.
+const VENDOR: u64 = 30;
+
+/// What agreed: parts of fields by name, headers, those that stop, and those that stop in a continued word.
 #[derive(Default)]
 pub struct Agreed {
     pub parts: BTreeMap<&'static str, u64>,
     pub readings: u64,
     pub stopped: u64,
-    pub cut: u64,
+    pub continued: u64,
 }
 
 /// A little-endian number.
@@ -51,11 +54,10 @@ fn calculated(shown: &Shown) -> bool {
     shown.name == "datarate" && shown.size == 3
 }
 
-/// The words before the first whose successor tshark does not number from 0 again, and that one.
-fn words_alike(packet: &[u8], words: u64) -> u64 {
-    let word = |index: &u64| number(&packet[4 + 4 * *index as usize..][..4]) as u32;
-    let last = (0..words).find(|index| word(index) & FROM_0 == 0);
-    last.map_or(words, |last| last + 1)
+/// Whether a word goes on numbering behind the one before it.
+fn continued(packet: &[u8], word: u64) -> bool {
+    let before = || number(&packet[4 * word as usize..][..4]) as u32;
+    word > 0 && before() & FROM_0 == 0
 }
 
 /// What stands before the first field, by tshark: pad, length and how many words.
@@ -81,15 +83,13 @@ impl Agreed {
                 before(shown)
             ));
         }
-        // Document 01 numbers the bits of every word from 0; tshark goes on from 32 where bit 29 is clear.
-        let alike = words_alike(packet, answer.words);
         let mut named = shown
             .iter()
             .filter(|field| named(&field.name) && !calculated(field));
-        for field in fields.iter().filter(|field| field[0] < alike) {
+        for field in &fields {
             self.field(packet, *field, &mut named)?;
         }
-        self.ending(&answer, alike, named.next())
+        self.ending(packet, &answer, named.next())
     }
 
     /// Compares the parts of one field with the next ones that tshark shows.
@@ -112,21 +112,24 @@ impl Agreed {
         Ok(())
     }
 
-    /// After the last field tshark shows no other, unless the reading stopped where tshark goes on.
+    /// After the last field tshark shows no other, unless the reading stopped at a bit that tshark knows; it knows none of a
+    /// continued word.
     fn ending(
         &mut self,
+        packet: &[u8],
         answer: &library::Radiotap,
-        alike: u64,
         more: Option<&Shown>,
     ) -> Result<(), String> {
         self.readings += 1;
-        if alike < answer.words {
-            self.cut += 1;
-        } else if answer.kind == library::STOPPED {
-            self.stopped += 1;
-        } else if let Some(field) = more {
-            return Err(format!("tshark shows one more: {field:?}"));
+        let stopped = answer.kind == library::STOPPED;
+        let continued = stopped && answer.bit < VENDOR && continued(packet, answer.word);
+        self.stopped += u64::from(stopped);
+        self.continued += u64::from(continued);
+        match more {
+            Some(field) if !stopped || continued => {
+                Err(format!("tshark shows one more: {field:?}"))
+            }
+            _ => Ok(()),
         }
-        Ok(())
     }
 }

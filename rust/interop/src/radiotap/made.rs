@@ -12,7 +12,7 @@ const UNKNOWN: [u32; 9] = [18, 22, 23, 24, 25, 26, 27, 28, 30];
 const TYPE_LENGTH_VALUE: u32 = 28;
 const VENDOR: u32 = 30;
 
-/// Another word follows; its bits are numbered from 0 again.
+/// Another word follows, and one whose bits are numbered from 0 again.
 const ANOTHER_WORD: u32 = 1 << 31;
 const FROM_0: u32 = 1 << 29;
 
@@ -40,9 +40,13 @@ fn words(prng: &mut Prng) -> Vec<u32> {
     let mut words: Vec<u32> = (0..count)
         .map(|_| prng.bits() as u32 & prng.bits() as u32 & known)
         .collect();
-    for word in &mut words[..count - 1] {
-        *word |= ANOTHER_WORD;
-        *word |= if prng.one_in(16) { 0 } else { FROM_0 };
+    for index in 1..count {
+        words[index - 1] |= ANOTHER_WORD;
+        if !prng.one_in(6) {
+            words[index - 1] |= FROM_0;
+        } else if prng.one_in(2) {
+            words[index] = 0;
+        }
     }
     if prng.one_in(6) {
         add_unknown(prng, &mut words);
@@ -65,7 +69,7 @@ fn add_unknown(prng: &mut Prng, words: &mut [u32]) {
     }
 }
 
-/// The length that the known fields of the words need.
+/// A length that the known fields of the words don't pass.
 fn length(words: &[u32]) -> usize {
     let mut at = 4 + 4 * words.len();
     for word in words {

@@ -59,10 +59,10 @@ fn report(agreed: &Agreed) {
     let Agreed {
         readings,
         stopped,
-        cut,
+        continued,
         ..
     } = agreed;
     println!("radiotap: {readings} readings agree with tshark in pad, length, words and fields");
     println!("  {stopped} of them stop at a bit that the edition doesn't know, and agree up to it");
-    println!("  {cut} of them agree up to a word that tshark doesn't number from 0");
+    println!("  {continued} of these stop in a continued word, where tshark shows no more either");
 }

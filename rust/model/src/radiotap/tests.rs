@@ -87,11 +87,11 @@ fn table() {
 fn every_row_after_one_octet() {
     for bit in 0..32 {
         let Some(row) = row(bit) else { continue };
-        let octets = input(&[1 << 31 | 1 << 1, 1 << bit], 40);
+        let octets = input(&[5 << 29 | 1 << 1, 1 << bit], 40);
         let start = 13_usize.next_multiple_of(row.alignment);
         let wanted = (vec![12, start], Ending::End);
         assert_eq!(starts(&octets, row.edition), Ok(wanted));
-        let short = input(&[1 << 31 | 1 << 1, 1 << bit], (start + row.size - 1) as u16);
+        let short = input(&[5 << 29 | 1 << 1, 1 << bit], (start + row.size - 1) as u16);
         let refusal = Reason::FieldPastLength.at(start);
         assert_eq!(starts(&short, NEWEST), Err(refusal));
         if row.edition > 1 {
@@ -110,6 +110,32 @@ fn unknown_bits_stop() {
     assert_eq!(starts(&input(&[1 << 29], 8), 1), Ok((vec![], Ending::End)));
     let two = input(&[1 << 31, 1 << 30], 12);
     assert_eq!(starts(&two, 1), Ok((vec![], stop(1, 30))));
+}
+
+#[test]
+fn continued_words_stop_by_word_and_bit() {
+    for edition in 0..=3 {
+        for bit in (0..29).chain([30]) {
+            let octets = input(&[1 << 31 | 1 << 1, 1 << bit], 40);
+            assert_eq!(starts(&octets, edition), Ok((vec![12], stop(1, bit))));
+        }
+        for empty in [0, 1 << 29] {
+            let octets = input(&[1 << 31 | 1 << 1, empty], 40);
+            assert_eq!(starts(&octets, edition), Ok((vec![12], Ending::End)));
+        }
+    }
+}
+
+#[test]
+fn bit_29_alone_lets_the_next_word_start_again() {
+    for edition in 0..=3 {
+        let again = input(&[1 << 31 | 1 << 1, 5 << 29, 1 << 2], 40);
+        assert_eq!(starts(&again, edition), Ok((vec![16, 17], Ending::End)));
+        let on = input(&[5 << 29 | 1 << 1, 1 << 31, 1 << 2], 40);
+        assert_eq!(starts(&on, edition), Ok((vec![16], stop(2, 2))));
+        let both = input(&[7 << 29 | 1 << 1, 1 << 2], 40);
+        assert_eq!(starts(&both, edition), Ok((vec![12], stop(0, 30))));
+    }
 }
 
 #[test]

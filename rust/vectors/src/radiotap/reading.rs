@@ -7,8 +7,9 @@ use model::radiotap::row;
 /// What each number of a buffer is at first: no field has it.
 const UNTOUCHED: u64 = 99_999;
 
-/// The bit that calls for another word.
+/// The bit that calls for another word, and the one that lets it start again.
 const ANOTHER: u32 = 1 << 31;
+const RESET: u32 = 1 << 29;
 
 /// A header of these words and this length, at least up to the words' end, all other octets 0.
 fn header(words: &[u32], length: usize) -> Vec<u8> {
@@ -59,6 +60,7 @@ pub fn questions(list: &mut Vec<Question>) {
     rows_after_one_octet(list);
     rows_one_octet_short(list);
     unknown_bits(list);
+    continued_words(list);
     fields_past_length(list);
     octets_left(list);
     field_numbers(list);
@@ -140,9 +142,9 @@ fn orders(list: &mut Vec<Question>) {
     list.push(fields(&input, 1, 4));
 }
 
-/// Words of which all but the last call for another.
+/// Words of which all but the last call for another, which starts again.
 fn chain(count: usize, last: u32) -> Vec<u32> {
-    let mut words = vec![ANOTHER; count];
+    let mut words = vec![ANOTHER | RESET; count];
     words[count - 1] = last;
     words
 }
@@ -193,7 +195,7 @@ fn rows_alone(list: &mut Vec<Question>) {
 /// Each row in a second word, after a field of one octet in the first.
 fn rows_after_one_octet(list: &mut Vec<Question>) {
     for bit in ROWS {
-        let words = [ANOTHER | 1 << 1, 1 << bit];
+        let words = [ANOTHER | RESET | 1 << 1, 1 << bit];
         list.push(fields(&header(&words, 28), 3, 8));
     }
 }
@@ -215,10 +217,43 @@ fn unknown_bits(list: &mut Vec<Question>) {
     list.push(read(&header(&[1 << 30 | 1 << 1], 9), 1));
     list.push(read(&header(&[ANOTHER | 1 << 29, 1 << 30], 12), 2));
     list.push(fields(&header(&[1 << 18 | 1 << 2 | 1 << 19], 16), 3, 8));
-    let words = [ANOTHER | 1 << 1, ANOTHER | 1 << 28, 1 << 2];
+    let words = [ANOTHER | RESET | 1 << 1, ANOTHER | 1 << 28, 1 << 2];
     list.push(fields(&header(&words, 20), 3, 8));
     list.push(fields(&header(&[7 << 29 | 1 << 1, 1 << 2], 14), 3, 8));
     list.push(fields(&header(&[5 << 29 | 1 << 1, 1 << 2], 14), 3, 8));
+}
+
+/// Words behind one without bit 29, in every edition: empty, with bit 29, and with bits that stop a reading.
+fn continued_words(list: &mut Vec<Question>) {
+    let flags = ANOTHER | 1 << 1;
+    let headers: [&[u32]; 12] = [
+        &[flags, 0],
+        &[flags, RESET],
+        &[flags, ANOTHER | RESET, 1 << 2 | 1 << 5],
+        &[flags, ANOTHER, 1 << 2],
+        &[flags | RESET, ANOTHER, 1 << 2],
+        &[flags | RESET, ANOTHER | 1 << 2, ANOTHER | RESET, 1 << 5],
+        &[flags, 1 << 30],
+        &[flags, RESET | 1 << 30],
+        &[flags | RESET | 1 << 30, 1 << 2],
+        &[flags, 1 << 28],
+        &[flags, 1 << 28 | 1 << 30],
+        &[flags, 1 << 0],
+    ];
+    for words in headers {
+        let input = header(words, 24);
+        for edition in 0..=3 {
+            list.push(read(&input, edition));
+            list.push(field(&input, edition, 1));
+        }
+        list.push(fields(&input, 3, 16));
+    }
+    // A known field of a word that starts again runs past the length; of a continued word it stops the reading.
+    for again in [0, RESET] {
+        list.push(read(&header(&[flags | again, 1 << 2], 13), 1));
+    }
+    let eight = [ANOTHER; 7].into_iter().chain([1 << 1]);
+    list.push(fields(&header(&eight.collect::<Vec<_>>(), 40), 3, 8));
 }
 
 /// Fields that run past the length, after alignment and after other fields.
@@ -226,7 +261,7 @@ fn fields_past_length(list: &mut Vec<Question>) {
     for length in [8, 9, 10, 13, 14] {
         list.push(read(&header(&[1 << 1 | 1 << 3], length), 1));
     }
-    let words = [ANOTHER | 1 << 1, 1 << 0];
+    let words = [ANOTHER | RESET | 1 << 1, 1 << 0];
     for length in [12, 13, 16, 23] {
         list.push(read(&header(&words, length), 1));
     }

@@ -88,7 +88,8 @@ const NAMES: [&str; 29] = [
     "TLV",
 ];
 
-/// The published name of the field that a bit calls for; bits 29 to 31 call for none.
+/// The published name of the field that a bit calls for, in a word that numbers its bits from 0; bits 29 to 31 call for
+/// none.
 pub fn name(bit: u32) -> Option<&'static str> {
     NAMES.get(bit as usize).copied()
 }
