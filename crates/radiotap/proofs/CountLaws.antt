@@ -62,10 +62,12 @@ pub record Counting (edition : ℕ) (s : List ℕ) (known size words : ℕ) (c :
   pub sofar : Found edition s known size words c index last fields
   pub stands : Standing edition s known c index left stop last
 
+-- where one test leaves nothing of another that passes, it passes too
 set-before : (t u : Bool) → (not t && u) ≡ false → u ≡ true → t ≡ true
 set-before true u e h = refl
 set-before false u e h = absurd (let z : _≡_ {A = ℕ} 0 1 = cc in omega arith)
 
+-- what is given is given once
 given-same : {A : Type 0} {x y : A} → given x ≡ given y → x ≡ y
 given-same e = cc
 

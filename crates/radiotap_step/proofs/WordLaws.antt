@@ -35,6 +35,7 @@ carries-none true true e = inr refl
 carries-none true false e = inl e
 carries-none false u e = inl refl
 
+-- a test that passes where another fails
 not-and-true : (t u : Bool) → (not t && u) ≡ true → (t ≡ false) × (u ≡ true)
 not-and-true true u e = let z : _≡_ {A = ℕ} 0 1 = cc in absurd (omega arith)
 not-and-true false u e = (refl, e)
