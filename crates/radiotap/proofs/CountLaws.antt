@@ -2,7 +2,7 @@
 -- Assumes nothing.
 use Prim.Native.Nat.{ℕ, suc, _+_, _-_, _*_, _/_, _%_, _^_, _≤_, _<_}
 use mathlib.Core.Path.{_≡_, refl, sym, ap, _∙_, subst, subst₂}
-use mathlib.Core.Bool.{Bool, true, false, not, _&&_}
+use mathlib.Core.Bool.{true, false, not, _&&_}
 use mathlib.Core.List.{List}
 use native.Mathlib.Omega.{arith}
 use native.Mathlib.Nat.{zero-add}
@@ -28,6 +28,7 @@ use Rattle.radiotap_table.specs.declared.Span.{Span}
 use Rattle.radiotap_table.specs.Says.{SpannedAs}
 use Rattle.radiotap_bits.specs.Bits.{KnownBits, carriesField, Carries, Continues}
 use Rattle.radiotap_bits.proofs.SetLaws.{none-set, trailing-below}
+use Rattle.radiotap_bits.proofs.LeftLaws.{both-not}
 use Rattle.radiotap_step.proofs.StepLaws.{Reached, starts, ends}
 use Rattle.radiotap_step.proofs.WordLaws.{KnownIn, Standing, opens, stops-here, passes-word, stops-continued, bit-small, starts-near, refuses-past, behind, meets-field, stands-behind}
 use Rattle.radiotap.proofs.WalkLaws.{SoFar, begins, countable, passes}
@@ -61,11 +62,6 @@ pub record AtWord (edition : ℕ) (s : List ℕ) (known size words : ℕ) (c : C
 pub record Counting (edition : ℕ) (s : List ℕ) (known size words : ℕ) (c : Cursor) (index left stop last fields : ℕ) : Type 0 where
   pub sofar : Found edition s known size words c index last fields
   pub stands : Standing edition s known c index left stop last
-
--- where one test leaves nothing of another that passes, it passes too
-set-before : (t u : Bool) → (not t && u) ≡ false → u ≡ true → t ≡ true
-set-before true u e h = refl
-set-before false u e h = absurd (let z : _≡_ {A = ℕ} 0 1 = cc in omega arith)
 
 -- what is given is given once
 given-same : {A : Type 0} {x y : A} → given x ≡ given y → x ≡ y
@@ -175,12 +171,12 @@ module _ (edition : ℕ) (s : List ℕ) (known : ℕ) where
           (passes-word edition s known (known-here (w .sofar)) (w .stands) (here-more (w .sofar)) none past)
 
       -- and stops the walk where it is continued and carries a field
-      module _ {word strange : ℕ} (held : Held s size index word) (told : Continues word next strange) where
+      module _ {word unknown : ℕ} (held : Held s size index word) (told : Continues word next unknown) where
         following : suc index ≡ index + 1
         following = omega arith
 
-        pub counts-strange : (strange ≡ 0 → ⊥) → stepOf ourRules edition s c ≡ over (stopped (index + 1) (trailingZeros wordBits strange))
-        counts-strange some =
+        pub counts-continued : (unknown ≡ 0 → ⊥) → stepOf ourRules edition s c ≡ over (stopped (index + 1) (trailingZeros wordBits unknown))
+        counts-continued some =
             stops-continued edition s word (index + 1) reaches (omega (arith, w .sofar .count)) on told some
           where
             on : bitSet word 29 ≡ false → wordBits ≤ firstNumber (wordsOf s c) (index + 1)
@@ -191,7 +187,7 @@ module _ (edition : ℕ) (s : List ℕ) (known : ℕ) where
                 (goes-on ws (suc index) (ap (λ (k : ℕ). bitSet k 29) (held ws (w .sofar .found .words)) ∙ clear)))
 
         -- else the walk goes on in it: its bits that carry a field are numbered from 0 again
-        known-next : KnownBits edition known → strange ≡ 0 → KnownAt edition s size (index + 1) known
+        known-next : KnownBits edition known → unknown ≡ 0 → KnownAt edition s size (index + 1) known
         known-next knowing nothing ws same bit h carries =
             let here : wordAt (wordBits * (index + 1)) ≡ index + 1 = omega arith in
             let own : wordsOf s c ≡ ws = own-words (w .sofar) ∙ given-same (sym (w .sofar .found .words) ∙ same) in
@@ -199,16 +195,16 @@ module _ (edition : ℕ) (s : List ℕ) (known : ℕ) where
             sym (ap (λ (ws : List ℕ). getD ws (index + 1) 0) own)
             ∙ sym (ap (λ (k : ℕ). getD (wordsOf s c) k 0) here)
             ∙ reaches .word (omega (arith, here, w .sofar .count)) in
-            let clear : (not (bitSet word 29) && carriesField next bit) ≡ false =
-            sym (told .told bit h) ∙ ap (λ (k : ℕ). bitSet k bit) nothing ∙ none-set bit in
+            let clear : (carriesField next bit && not (bitSet word 29)) ≡ false =
+            sym (told .strange bit h) ∙ ap (λ (k : ℕ). bitSet k bit) nothing ∙ none-set bit in
             let set : bitSet word 29 ≡ true =
-            set-before (bitSet word 29) (carriesField next bit) clear (sym (ap (λ (k : ℕ). carriesField k bit) its) ∙ carries) in
+            both-not (carriesField next bit) (bitSet word 29) clear (sym (ap (λ (k : ℕ). carriesField k bit) its) ∙ carries) in
             let first : firstNumber ws (index + 1) ≡ 0 =
             ap (firstNumber ws) (sym following) ∙ starts-at-0 ws (suc index) (ap (λ (k : ℕ). bitSet k 29) (held ws same) ∙ set) in
             let number : bit ≡ firstNumber ws (index + 1) + bit = omega (arith, first) in
             knowing bit h ∙ ap (knows ourRules edition) number
 
-        pub counts-word : KnownBits edition known → strange ≡ 0 → AtWord edition s known size words c (index + 1) next last fields
+        pub counts-word : KnownBits edition known → unknown ≡ 0 → AtWord edition s known size words c (index + 1) next last fields
         counts-word knowing nothing =
             let before = w .sofar in
             record {

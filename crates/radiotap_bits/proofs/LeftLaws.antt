@@ -182,7 +182,7 @@ set-above n h = go (decLe 1 n)
         absurd (omega (arith, ap (trailingZeros wordBits) none, trailing-of-zero wordBits))
 
 -- two tests of a bit, and of it without another
-both-not : (t u : Bool) → (t && not u) ≡ false → t ≡ true → u ≡ true
+pub both-not : (t u : Bool) → (t && not u) ≡ false → t ≡ true → u ≡ true
 both-not true true e h = refl
 both-not true false e h = sym e
 both-not false u e h = let z : _≡_ {A = ℕ} 0 1 = cc in absurd (omega arith)
@@ -191,6 +191,15 @@ pub and-not-true : (t u : Bool) → (t && not u) ≡ true → (t ≡ true) × (u
 and-not-true true true e = let z : _≡_ {A = ℕ} 0 1 = cc in absurd (omega arith)
 and-not-true true false e = (refl, refl)
 and-not-true false u e = let z : _≡_ {A = ℕ} 0 1 = cc in absurd (omega arith)
+
+-- a test and one that passes, or that fails
+pub and-true : (t : Bool) → (t && true) ≡ t
+and-true true = refl
+and-true false = refl
+
+and-false : (t : Bool) → (t && false) ≡ false
+and-false true = refl
+and-false false = refl
 
 -- the bits of a word that carry a field
 field-bit : (word bit : ℕ) → bit < wordBits → bitSet (bitAnd word 1610612735) bit ≡ carriesField word bit
@@ -201,13 +210,21 @@ module _ (before word : ℕ) where
   pub continues-none : bitSet before 29 ≡ true → Continues before word 0
   continues-none set = record {
     small = omega arith;
-    told = λ bit h. none-set bit ∙ ap (λ (t : Bool). not t && carriesField word bit) (sym set);
+    strange =
+        λ bit h.
+        none-set bit
+        ∙ sym (and-false (carriesField word bit))
+        ∙ ap (λ (t : Bool). carriesField word bit && not t) (sym set);
   }
 
   pub continues-all : bitSet before 29 ≡ false → Continues before word (bitAnd word 1610612735)
   continues-all clear = record {
     small = omega (arith, and-le-r word 1610612735);
-    told = λ bit h. field-bit word bit h ∙ ap (λ (t : Bool). not t && carriesField word bit) (sym clear);
+    strange =
+        λ bit h.
+        field-bit word bit h
+        ∙ sym (and-true (carriesField word bit))
+        ∙ ap (λ (t : Bool). carriesField word bit && not t) (sym clear);
   }
 
 module _ (word known : ℕ) where
@@ -305,10 +322,6 @@ module _ (word known : ℕ) where
       where
         taken : (bit : ℕ) → bitSet (bitAnd (bitAnd fields known) r) bit ≡ ((bitSet fields bit && bitSet known bit) && bitSet r bit)
         taken bit = and-bit (bitAnd fields known) r bit ∙ ap (λ (t : Bool). t && bitSet r bit) (and-bit fields known bit)
-
-        and-true : (t : Bool) → (t && true) ≡ t
-        and-true true = refl
-        and-true false = refl
 
         and-assoc : (t u v : Bool) → ((t && u) && v) ≡ (t && u && v)
         and-assoc true u v = refl

@@ -52,6 +52,6 @@ pub record Carries (word known shown unknown : ℕ) : Type 0 where
 
 -- the bits by which a word behind another stops a walk since it is continued: those that carry a field, where bit 29 of the
 -- other is clear
-pub record Continues (before word strange : ℕ) : Type 0 where
-  pub small : strange < 2 ^ wordBits
-  pub told : (bit : ℕ) → bit < wordBits → bitSet strange bit ≡ (not (bitSet before 29) && carriesField word bit)
+pub record Continues (before word unknown : ℕ) : Type 0 where
+  pub small : unknown < 2 ^ wordBits
+  pub strange : (bit : ℕ) → bit < wordBits → bitSet unknown bit ≡ (carriesField word bit && not (bitSet before 29))

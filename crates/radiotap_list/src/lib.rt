@@ -138,15 +138,15 @@ fn list(
         index += 1;
         let at = 4 + 4 * index as usize;
         let next = number_at::join32(s[at + 3], s[at + 2], s[at + 1], s[at + 0]);
-        let strange = radiotap_bits::continued(word, next);
-        if strange != 0 {
+        let unknown = radiotap_bits::continued(word, next);
+        if unknown != 0 {
             return ReadAnswer::Stopped {
                 fields,
                 frame: size,
                 pad,
                 words: head.words,
                 word: index,
-                bit: u32::trailing_zeros(strange),
+                bit: u32::trailing_zeros(unknown),
             };
         }
         word = next;

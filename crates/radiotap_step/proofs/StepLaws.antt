@@ -3,22 +3,23 @@
 use Prim.Native.Nat.{ℕ, zero, suc, _+_, _-_, _*_, _≤_, _<_}
 use mathlib.Core.Path.{_≡_, refl, sym, ap, _∙_, subst}
 use mathlib.Core.Bool.{Bool, true, false, cond, _||_}
-use mathlib.Core.List.{List, []}
+use mathlib.Core.List.{List}
 use native.Mathlib.Omega.{arith}
 use mathlib.Core.Logic.{_⊎_, inl, inr}
 use lib.ListN.{getD}
 use lib.Dec.{eqb}
-use native.Mathlib.Decide.{decLe}
+use native.Mathlib.Decide.{decLe, ℕ-discrete}
 use native.Mathlib.Nat.{zero-add}
 use borrow.Author.Tests.{le-leb, lt-leb, eq-eqb, ne-eqb, eqb-true}
 use Rattle.octets.specs.Numbers.{little, numberAt}
 use Rattle.octets.specs.Parts.{part}
 use Rattle.radiotap_rules.specs.declared.Cursor.{Cursor}
 use Rattle.radiotap_rules.specs.Rules.{Rules, rowOf, knows, tableOk}
-use Rattle.radiotap_rules.specs.Reading.{fieldPast, wordBits, wordAt, bitAt, firstNumber, rowNumber, bitSet, present, Meaning, nothing, unknownHere, field, meaning, aligned, ended, stopped}
+use Rattle.radiotap_rules.specs.Reading.{fieldPast, wordBits, wordAt, bitAt, firstNumber, rowNumber, bitSet, present, nothing, unknownHere, field, meaning, aligned, ended, stopped}
 use Rattle.radiotap_rules.specs.Steps.{wordsFor, wordsOf, Met, refusedStep, over, met, metMeaning, metFrom, stepOf}
 use Rattle.radiotap_rules.specs.Answers.{Layout, unknownField, lies, layOf}
 use Rattle.radiotap_rules.proofs.TableTests.{unknown-high}
+use Rattle.radiotap_rules.proofs.Meanings.{means-clear, means-none, means-vendor, means-bit}
 use Rattle.radiotap_rules.proofs.Numbering.{starts-at-0, goes-on}
 use Rattle.radiotap_table.proofs.RowLaws.{lay-unknown}
 use Rattle.radiotap_bits.specs.Bits.{NextSet}
@@ -33,41 +34,35 @@ word-of s c i zero k h = absurd (omega arith)
 word-of s c i (suc n) zero h = let e : i + 0 ≡ i = omega arith in rw e
 word-of s c i (suc n) (suc k) h = let e : i + suc k ≡ suc i + k = omega arith in rw e (word-of s c (suc i) n k (omega arith))
 
--- a position whose bit is clear, or is 29 or 31, carries no field
-clear-nothing : (rules : Rules) (edition : ℕ) (words : List ℕ) (q : ℕ) → present words q ≡ false → meaning rules edition words q ≡ nothing
-unfolding meaning
-clear-nothing rules edition words q e = rw e
-
-bare : (rules : Rules) (edition : ℕ) (words : List ℕ) (q : ℕ) → (eqb (bitAt q) 29 || eqb (bitAt q) 31) ≡ true → meaning rules edition words q ≡ nothing
-unfolding meaning
-bare rules edition words q e = go (present words q)
+-- the test of bits 29 and 31, either way
+bare-bit : (b : ℕ) → (eqb b 29 || eqb b 31) ≡ true → (b ≡ 29) ⊎ (b ≡ 31)
+bare-bit b = go (eqb b 29) refl
   where
-    go : (p : Bool)
-        → cond p
-        (cond (eqb (bitAt q) 29 || eqb (bitAt q) 31)
-        nothing
-        (cond (eqb (bitAt q) 30)
-        unknownHere
-        (cond (knows rules edition (rowNumber words q)) (field (rowOf rules (rowNumber words q))) unknownHere)))
-        nothing
-        ≡ nothing
-    go true = rw e
-    go false = refl
+    go : (t : Bool) → eqb b 29 ≡ t → (t || eqb b 31) ≡ true → (b ≡ 29) ⊎ (b ≡ 31)
+    go true e h = inl (eqb-true b 29 e)
+    go false e h = inr (eqb-true b 31 h)
 
--- a set bit, neither 29 nor 31, is a field that the edition knows or a stop, also bit 30 where the edition does not know it
-known-or-stop : (rules : Rules) (edition : ℕ) (words : List ℕ) (q : ℕ) → present words q ≡ true
-    → (eqb (bitAt q) 29 || eqb (bitAt q) 31) ≡ false → (bitAt q ≡ 30 → knows rules edition (rowNumber words q) ≡ false)
+other-bit : (b : ℕ) → (eqb b 29 || eqb b 31) ≡ false → ((b ≡ 29) ⊎ (b ≡ 31)) → ⊥
+other-bit b h (inl e) = let z : _≡_ {A = ℕ} 0 1 = cc (h, ap (λ (k : ℕ). eqb k 29 || eqb k 31) e) in omega arith
+other-bit b h (inr e) = let z : _≡_ {A = ℕ} 0 1 = cc (h, ap (λ (k : ℕ). eqb k 29 || eqb k 31) e) in omega arith
+
+-- a set bit, neither 29 nor 31, is a field that the edition knows or a stop. No edition knows the number of a bit 30.
+known-or-stop : (rules : Rules) (edition : ℕ) (words : List ℕ) (q : ℕ) → tableOk rules ≡ true → present words q ≡ true
+    → (eqb (bitAt q) 29 || eqb (bitAt q) 31) ≡ false
     → meaning rules edition words q ≡ cond (knows rules edition (rowNumber words q)) (field (rowOf rules (rowNumber words q))) unknownHere
-unfolding meaning
-known-or-stop rules edition words q here other thirty = rw (here, other) (go (eqb (bitAt q) 30) refl)
+known-or-stop rules edition words q ok here other = go (ℕ-discrete (bitAt q) 30)
   where
-    by-row : Bool → Meaning
-    by-row k = cond k (field (rowOf rules (rowNumber words q))) unknownHere
+    n : ℕ
+    n = rowNumber words q
 
-    go : (t : Bool) → eqb (bitAt q) 30 ≡ t
-        → cond t unknownHere (by-row (knows rules edition (rowNumber words q))) ≡ by-row (knows rules edition (rowNumber words q))
-    go true e = sym (ap by-row (thirty (eqb-true (bitAt q) 30 e)))
-    go false e = refl
+    go : Dec (bitAt q ≡ 30) → meaning rules edition words q ≡ cond (knows rules edition n) (field (rowOf rules n)) unknownHere
+    go (yes e) =
+        means-vendor rules edition words q here e
+        ∙ sym (ap (λ (k : Bool). cond k (field (rowOf rules n)) unknownHere) (unknown-high rules edition n ok (omega arith)))
+    go (no thirty) =
+        let twenty-nine : bitAt q ≡ 29 → ⊥ = λ e. other-bit (bitAt q) other (inl e) in
+        let thirty-one : bitAt q ≡ 31 → ⊥ = λ e. other-bit (bitAt q) other (inr e) in
+        means-bit rules edition words q here (omega arith)
 
 -- positions that carry no field are passed
 skip : (rules : Rules) (edition : ℕ) (s : List ℕ) (c : Cursor) (words : List ℕ) (n left q : ℕ) → n ≤ left
@@ -147,7 +142,7 @@ module _ (rules : Rules) (edition : ℕ) (s : List ℕ) (c : Cursor) where
       clear-at b small e =
           let w : wordAt (wordBits * wordAt position + b) ≡ wordAt position = omega arith in
           let b′ : bitAt (wordBits * wordAt position + b) ≡ b = omega arith in
-          clear-nothing rules edition (wordsOf s c) (wordBits * wordAt position + b)
+          means-clear rules edition (wordsOf s c) (wordBits * wordAt position + b)
           (ap (λ (k : ℕ). bitSet (getD (wordsOf s c) k 0) (bitAt (wordBits * wordAt position + b))) w
           ∙ ap (λ (k : ℕ). bitSet (getD (wordsOf s c) (wordAt position) 0) k) b′
           ∙ ap (λ (k : ℕ). bitSet k b) (r .word inside)
@@ -178,7 +173,8 @@ module _ (rules : Rules) (edition : ℕ) (s : List ℕ) (c : Cursor) where
               go (inl e) = clear-at (bitAt position + i) (omega arith) e
               go (inr e) =
                   let b′ : bitAt (wordBits * wordAt position + (bitAt position + i)) ≡ bitAt position + i = omega arith in
-                  bare rules edition (wordsOf s c) (wordBits * wordAt position + (bitAt position + i)) (ap (λ (k : ℕ). eqb k 29 || eqb k 31) b′ ∙ e)
+                  means-none rules edition (wordsOf s c) (wordBits * wordAt position + (bitAt position + i))
+                  (bare-bit (bitAt (wordBits * wordAt position + (bitAt position + i))) (ap (λ (k : ℕ). eqb k 29 || eqb k 31) b′ ∙ e))
 
       -- to a later bit of the word
       pub within : (next : ℕ) → bitAt position ≤ next → next < wordBits
@@ -208,8 +204,7 @@ module _ (rules : Rules) (edition : ℕ) (s : List ℕ) (c : Cursor) where
             later = omega (arith, r .later);
           }
 
-      -- a set bit, neither 29 nor 31, stops the walk or is a field: by where the field of its number lies. No edition knows
-      -- the number of a bit 30.
+      -- a set bit, neither 29 nor 31, stops the walk or is a field: by where the field of its number lies
       pub meets : (bit : ℕ) → bitAt position ≤ bit → bit < wordBits
           → ((b : ℕ) → bitAt position ≤ b → b < bit → (bitSet bits b ≡ false) ⊎ ((eqb b 29 || eqb b 31) ≡ true))
           → bitSet bits bit ≡ true → (eqb bit 29 || eqb bit 31) ≡ false → tableOk rules ≡ true
@@ -229,7 +224,7 @@ module _ (rules : Rules) (edition : ℕ) (s : List ℕ) (c : Cursor) where
           passes bit low (omega arith) none
           ∙ ap (λ (k : ℕ). metFrom rules edition s c (wordsOf s c) k q) left
           ∙ ap (metMeaning s c (wordsOf s c) q (metFrom rules edition s c (wordsOf s c) (wordBits * c .words - suc q) (suc q)))
-          (known-or-stop rules edition (wordsOf s c) q here bare-not (λ e. unknown-high rules edition (rowNumber (wordsOf s c) q) ok (omega (arith, e))))
+          (known-or-stop rules edition (wordsOf s c) q ok here bare-not)
           ∙ laid-at q (rowNumber (wordsOf s c) q) (knows rules edition (rowNumber (wordsOf s c) q))
           ∙ ap (λ (n : ℕ). metLaid s c (wordAt q) (bitAt q) (getD (wordsOf s c) (wordAt q) 0) (layOf rules edition n (c .at))) number
           ∙ ap (λ (k : ℕ). metLaid s c k (bitAt q) (getD (wordsOf s c) (wordAt q) 0) (layAt bit)) w

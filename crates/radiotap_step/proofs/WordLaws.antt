@@ -6,7 +6,6 @@ use mathlib.Core.Bool.{Bool, true, false, not, _&&_}
 use mathlib.Core.Logic.{_⊎_, inl, inr}
 use mathlib.Core.List.{List}
 use native.Mathlib.Omega.{arith}
-use native.Mathlib.Decide.{decLe}
 use lib.ListN.{getD}
 use lib.Bits.{bitAnd, bitOr}
 use lib.Count.{trailingZeros}
@@ -20,12 +19,12 @@ use Rattle.radiotap_rules.specs.Steps.{wordsOf, refusedStep, over, met, stepOf}
 use Rattle.radiotap_rules.specs.Answers.{lies, layOf}
 use Rattle.radiotap_table.specs.declared.Span.{Span}
 use Rattle.radiotap_table.specs.Says.{SpannedAs}
-use Rattle.radiotap_rules.proofs.TableTests.{unknown-high}
+use Rattle.radiotap_rules.proofs.TableTests.{known-low, unknown-high}
 use Rattle.radiotap_rules.proofs.Numbering.{starts-at-0, known-again}
 use Rattle.radiotap_bits.specs.Bits.{bare, carriesField, LeftFrom, StopsAt, Continues}
 use Rattle.radiotap_table.proofs.RowLaws.{lay-near, lay-unknown, span-lies}
 use Rattle.radiotap_bits.proofs.SetLaws.{trailing-clear, trailing-set, trailing-below}
-use Rattle.radiotap_bits.proofs.LeftLaws.{and-not-true, first-small, first-low, first-below, first-carries, first-between, left-next, left-none}
+use Rattle.radiotap_bits.proofs.LeftLaws.{and-not-true, and-true, first-small, first-low, first-below, first-carries, first-between, left-next, left-none}
 use Rattle.radiotap_step.specs.Met.{metLaid}
 use Rattle.radiotap_step.proofs.StepLaws.{Reached, starts, onward, meets, laid-inside, laid-past}
 
@@ -34,23 +33,6 @@ carries-none : (t u : Bool) → (t && not u) ≡ false → (t ≡ false) ⊎ (u 
 carries-none true true e = inr refl
 carries-none true false e = inl e
 carries-none false u e = inl refl
-
--- a test that passes where another fails
-not-and-true : (t u : Bool) → (not t && u) ≡ true → (t ≡ false) × (u ≡ true)
-not-and-true true u e = let z : _≡_ {A = ℕ} 0 1 = cc in absurd (omega arith)
-not-and-true false u e = (refl, e)
-
--- no edition knows bit 31
-known-below : (edition bit : ℕ) → bit < wordBits → knows ourRules edition bit ≡ true → bit + 1 < wordBits
-known-below edition bit h known = go (decLe 31 bit)
-  where
-    go : Dec (31 ≤ bit) → bit + 1 < wordBits
-    go (yes l) =
-        let last : bit ≡ 31 = omega arith in
-        let same : true ≡ false = sym known ∙ ap (knows ourRules edition) last in
-        let z : _≡_ {A = ℕ} 0 1 = cc same in
-        absurd (omega arith)
-    go (no l) = omega arith
 
 -- of the bits of a word that carry a field, an edition knows these, by the numbers that the word gives them
 abbrev pub KnownIn : (edition : ℕ) → (words : List ℕ) → (index known : ℕ) → Type 0
@@ -199,22 +181,22 @@ module _ (edition : ℕ) (s : List ℕ) (known : ℕ) where
           rest = left-next (n .rest) some;
           stops = n .stops;
           low = omega (arith, first-below (n .rest) some);
-          inside = known-below edition bit bit-small bit-known;
+          inside = omega (arith, known-low ourRules edition bit refl bit-known);
           free = free;
         }
 
 -- at the start of a continued word some of its bits carry a field: the lowest of them stops the walk
-pub stops-continued : (edition : ℕ) (s : List ℕ) {c : Cursor} {word strange : ℕ} (before index : ℕ) → Reached ourRules edition s c (wordBits * index) word
-    → index < c .words → (bitSet before 29 ≡ false → wordBits ≤ firstNumber (wordsOf s c) index) → Continues before word strange
-    → (strange ≡ 0 → ⊥) → stepOf ourRules edition s c ≡ over (stopped index (trailingZeros wordBits strange))
-stops-continued edition s {c} {word} {strange} before index reached more on told some =
+pub stops-continued : (edition : ℕ) (s : List ℕ) {c : Cursor} {word unknown : ℕ} (before index : ℕ) → Reached ourRules edition s c (wordBits * index) word
+    → index < c .words → (bitSet before 29 ≡ false → wordBits ≤ firstNumber (wordsOf s c) index) → Continues before word unknown
+    → (unknown ≡ 0 → ⊥) → stepOf ourRules edition s c ≡ over (stopped index (trailingZeros wordBits unknown))
+stops-continued edition s {c} {word} {unknown} before index reached more on told some =
     meets ourRules edition s c reached (omega (arith, here)) stop (omega arith) inside
     (λ b low below. carries-none (bitSet word b) (bare b) (clear b (omega (arith, inside)) below)) (set .0) (set .1) refl
     ∙ ap (λ (k : ℕ). metLaid s c k stop word (layOf ourRules edition (firstNumber (wordsOf s c) k + stop) (c .at))) here
-    ∙ ap (metLaid s c index stop word) (lay-unknown ourRules number edition (c .at) (unknown-high ourRules edition number refl (omega (arith, on (both .0)))))
+    ∙ ap (metLaid s c index stop word) (lay-unknown ourRules number edition (c .at) (unknown-high ourRules edition number refl (omega (arith, on (both .1)))))
   where
     stop : ℕ
-    stop = trailingZeros wordBits strange
+    stop = trailingZeros wordBits unknown
 
     number : ℕ
     number = firstNumber (wordsOf s c) index + stop
@@ -223,16 +205,19 @@ stops-continued edition s {c} {word} {strange} before index reached more on told
     here = omega arith
 
     inside : stop < wordBits
-    inside = trailing-below wordBits wordBits strange (omega arith) (omega arith) (told .small)
+    inside = trailing-below wordBits wordBits unknown (omega arith) (omega arith) (told .small)
 
-    -- the lowest is set, so bit 29 before is clear and the bit carries a field
-    both : (bitSet before 29 ≡ false) × (carriesField word stop ≡ true)
-    both = not-and-true (bitSet before 29) (carriesField word stop) (sym (told .told stop inside) ∙ trailing-set wordBits strange inside)
+    -- the lowest is set, so the bit carries a field and bit 29 before is clear
+    both : (carriesField word stop ≡ true) × (bitSet before 29 ≡ false)
+    both = and-not-true (carriesField word stop) (bitSet before 29) (sym (told .strange stop inside) ∙ trailing-set wordBits unknown inside)
 
     set : (bitSet word stop ≡ true) × (bare stop ≡ false)
-    set = and-not-true (bitSet word stop) (bare stop) (both .1)
+    set = and-not-true (bitSet word stop) (bare stop) (both .0)
 
     -- and none below it carries one
     clear : (b : ℕ) → b < wordBits → b < stop → carriesField word b ≡ false
     clear b high below =
-        ap (λ (t : Bool). not t && carriesField word b) (sym (both .0)) ∙ sym (told .told b high) ∙ trailing-clear wordBits strange b below
+        sym (and-true (carriesField word b))
+        ∙ ap (λ (t : Bool). carriesField word b && not t) (sym (both .1))
+        ∙ sym (told .strange b high)
+        ∙ trailing-clear wordBits unknown b below

@@ -17,7 +17,7 @@ use Rattle.radiotap_table.specs.Says.{SpannedAs}
 use Rattle.radiotap_table.proofs.RowLaws.{row-spans}
 use Rattle.radiotap.specs.Outcomes.{summarised}
 use Rattle.radiotap.proofs.WalkLaws.{refuses, finishes}
-use Rattle.radiotap.proofs.CountLaws.{AtWord, Counting, word-first, few-words, few-fields, held, word-last, word-followed, word-opens, stop-inside, stop-none, counts-stop, counts-end, counts-strange, counts-word, counts-small, counts-near, counts-past, counts-next}
+use Rattle.radiotap.proofs.CountLaws.{AtWord, Counting, word-first, few-words, few-fields, held, word-last, word-followed, word-opens, stop-inside, stop-none, counts-stop, counts-end, counts-continued, counts-word, counts-small, counts-near, counts-past, counts-next}
 use Rattle.radiotap.proofs.count.Statement.{statement}
 use Rattle.radiotap.proofs.count.Tie as tie
 
@@ -214,7 +214,7 @@ returns-4 c =
     let w = c .before .before .before .before .before .before .before .before .before .before .before .loop2 .inv .1 in
     let known = c .before .before .before .before .before .before .before .before .before .before .before .before .before .before .before .before .before .known .result in
     let past = stop-none (a .taken) (now (a .s)) known (c .before .before .before .before .before .before .before .before .if2 .left) in
-    let step = counts-strange (a .taken) (now (a .s)) known w (c .before .before .before .before .before .before .before .before .before .before .loop2-test .left) past (more (c .before .before .before .before .before .before .before)) (c .before .before .join32 .ensures) (held (a .taken) (now (a .s)) known (c .before .before .before .before .before .before .before .before .before .before .before .before .before .loop .inv .1)) (c .before .continued .ensures) (c .if4 .taken) in
+    let step = counts-continued (a .taken) (now (a .s)) known w (c .before .before .before .before .before .before .before .before .before .before .loop2-test .left) past (more (c .before .before .before .before .before .before .before)) (c .before .before .join32 .ensures) (held (a .taken) (now (a .s)) known (c .before .before .before .before .before .before .before .before .before .before .before .before .before .loop .inv .1)) (c .before .continued .ensures) (c .if4 .taken) in
     rw (c .before .before .before .before .before .before .before .before .before .before .before .before .before .before .before .before .octet .ensures) (sym (ap (summarised (getD (now (a .s)) 1 0) (a .head)) (finishes ourRules (a .taken) (now (a .s)) 0 (w .sofar .found) step)))
 
 loop-less : tie.Need-loop-less Inv-loop2 μ-loop2 Inv-loop μ-loop

@@ -22,7 +22,7 @@ use Rattle.radiotap_table.proofs.RowLaws.{row-spans}
 use Rattle.radiotap.specs.Outcomes.{summarised}
 use Rattle.radiotap.proofs.WalkLaws.{head-inside}
 use Rattle.radiotap.proofs.WalkLaws.{refuses as walk-refuses, finishes as walk-finishes}
-use Rattle.radiotap.proofs.CountLaws.{AtWord, Counting, word-first, few-words, few-fields, held, word-last, word-followed, word-opens, stop-inside, stop-none, counts-stop, counts-end, counts-strange, counts-word, counts-small, counts-near, counts-past, counts-field, counts-next}
+use Rattle.radiotap.proofs.CountLaws.{AtWord, Counting, word-first, few-words, few-fields, held, word-last, word-followed, word-opens, stop-inside, stop-none, counts-stop, counts-end, counts-continued, counts-word, counts-small, counts-near, counts-past, counts-field, counts-next}
 use Rattle.radiotap_list.proofs.ListLaws.{SoFar, Filled, filled, rebased, begins, keeps-length, refuses, finishes, puts, skips}
 use Rattle.radiotap_list.proofs.list.Statement.{statement}
 use Rattle.radiotap_list.proofs.list.Tie as tie
@@ -277,7 +277,7 @@ returns-4 c =
     let w = c .before .before .before .before .before .before .before .before .before .before .before .loop2 .inv .1 in
     let known = c .before .before .before .before .before .before .before .before .before .before .before .before .before .before .before .before .before .known .result in
     let past = stop-none (a .taken) (now (a .s)) known (c .before .before .before .before .before .before .before .before .if3 .left) in
-    let step = counts-strange (a .taken) (now (a .s)) known w (c .before .before .before .before .before .before .before .before .before .before .loop2-test .left) past (more (c .before .before .before .before .before .before .before)) (c .before .before .join32 .ensures) (held (a .taken) (now (a .s)) known (c .before .before .before .before .before .before .before .before .before .before .before .before .before .loop .inv .1)) (c .before .continued .ensures) (c .if5 .taken) in (
+    let step = counts-continued (a .taken) (now (a .s)) known w (c .before .before .before .before .before .before .before .before .before .before .loop2-test .left) past (more (c .before .before .before .before .before .before .before)) (c .before .before .join32 .ensures) (held (a .taken) (now (a .s)) known (c .before .before .before .before .before .before .before .before .before .before .before .before .before .loop .inv .1)) (c .before .continued .ensures) (c .if5 .taken) in (
       rw (c .before .before .before .before .before .before .before .before .before .before .before .before .before .before .before .before .octet .ensures) (sym (ap (summarised (getD (now (a .s)) 1 0) (a .head)) (walk-finishes ourRules (a .taken) (now (a .s)) 0 (w .sofar .found) step))),
       finishes ourRules (a .taken) (now (a .s)) (a .room) (firstCursor (a .head)) (now (a .out)) (holds (c .before .before .before .before .before .before .before .before .before .before .before)) step,
     )

@@ -1,9 +1,9 @@
 -- `radiotap_step::next_taken` meets its contract: the loop keeps that the step is what is met from the position reached on and how its word
 -- numbers its bits (`Searches`); the next set bit of the word carries it on to bit 30 or the next word, or is what the step meets.
 -- Assumes nothing.
-use Prim.Native.Nat.{ℕ, _+_, _-_, _*_, _/_, _<_}
+use Prim.Native.Nat.{ℕ, _-_, _*_, _/_}
 use native.Mathlib.Omega.{arith}
-use mathlib.Core.Path.{_≡_, refl, sym, subst, subst₂}
+use mathlib.Core.Path.{refl, sym, subst, subst₂}
 use denote.Ref.{now}
 use borrow.Author.Needs.{needs}
 use Rattle.radiotap_rules.specs.Table.{ourRules}

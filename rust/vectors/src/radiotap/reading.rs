@@ -223,7 +223,8 @@ fn unknown_bits(list: &mut Vec<Question>) {
     list.push(fields(&header(&[5 << 29 | 1 << 1, 1 << 2], 14), 3, 8));
 }
 
-/// Words behind one without bit 29, in every edition: empty, with bit 29, and with bits that stop a reading.
+/// Words behind one without bit 29, in every edition: empty, with bit 29, and with bits that stop a reading; and bit 30
+/// beside bit 29.
 fn continued_words(list: &mut Vec<Question>) {
     let flags = ANOTHER | 1 << 1;
     let headers: [&[u32]; 12] = [
