@@ -25,6 +25,9 @@ PLAIN = set(
     " part_of past read reads sign to write written".split()
 )
 
+# A word of the library that a proof also gives to a lemma of its own.
+LIBRARY = {"and-false"}
+
 # Words whose new spelling would be another's, or the name of a function in a file that cites them.
 BY_HAND = {
     "all-below": "all_below_lem",
@@ -65,7 +68,7 @@ def table(top):
             declared |= {m[1], *m[2].split()}
     for p in [*files, *sorted(top.glob("crates/*/src/**/*.rt"))]:
         declared |= {a for used in GHOST_USE.findall(p.read_text(encoding="utf-8")) for a in ALIAS.findall(used)}
-    declared = {d for d in declared if d[0].islower()} - goals
+    declared = {d for d in declared if d[0].islower()} - goals - LIBRARY
     names = {snake(n) for n in names | declared if "-" not in n and not n[:1].isupper()}
     rows = {}
     for old in sorted(declared):

@@ -1,12 +1,11 @@
 // The struct of the C boundary for the LE pseudo-header, and the reader's answer as one. Kind 0 is a refusal, 1 values.
 ghost use Rattle.std.specs.Prelude.{◌≡◌, ◌≤◌};
-ghost use Rattle.pseudo_header.specs.Flags.{bit_of};
 ghost use Rattle.refusals.specs.Refusals.{given};
-ghost use Rattle.le_flags.specs.Says.{pdu_type_number, phy_number, auxiliary_number, dependent_says, told_says};
+ghost use Rattle.le_flags.specs.Says.{pdu_type_number, phy_number, auxiliary_number, dependent_says, knowledge_says, told_says};
 ghost use Rattle.le_header.specs.Says.{le_says};
-ghost use Rattle.boundary_le.specs.Rows.{dependent_number, le_row};
+ghost use Rattle.boundary_le.specs.Rows.{bit_of, known_bits, dependent_number, le_row};
 
-use le_flags::{AuxiliaryKind, Dependent, PduType, Phy, Told};
+use le_flags::{AuxiliaryKind, Dependent, Knowledge, PduType, Phy, Told};
 use le_header::LeAnswer;
 use le_rules::{HEADER_LENGTH, Values};
 
@@ -57,10 +56,6 @@ pub fn row(answer: LeAnswer) -> Le
 fn read_row(values: Values, told: Told) -> Le
     ensures { result ≡ le_row (given (record { values = values; told = told_says told })) }
 {
-    let signal = told.signal;
-    let noise = told.noise;
-    let reference = told.reference;
-    let offences = told.offences;
     let pdu = told.pdu;
     let phy = told.phy;
     let dependent = told.dependent;
@@ -74,11 +69,31 @@ fn read_row(values: Values, told: Told) -> Le
         offences: values.offences as u64,
         reference: values.reference as u64,
         flags: values.flags as u64,
-        known: pseudo_header::known_bits(signal, noise, reference, offences),
+        known: known_bits(told),
         pdu: pdu_number(pdu),
         phy: phy_number(phy),
         dependent: dependent_number(dependent),
         packet: HEADER_LENGTH as u64,
+    }
+}
+
+// Bit 0 the signal, 1 the noise, 2 the reference address, 3 the offences: set where the value is known.
+fn known_bits(told: Told) -> u64
+    ensures { result ≡ known_bits (told_says told) }
+{
+    let signal = told.signal;
+    let noise = told.noise;
+    let reference = told.reference;
+    let offences = told.offences;
+    known_bit(signal) + 2 * known_bit(noise) + 4 * known_bit(reference) + 8 * known_bit(offences)
+}
+
+fn known_bit(knowledge: Knowledge) -> u64
+    ensures { (result ≡ bit_of (knowledge_says knowledge)) × (result ≤ 1) }
+{
+    match knowledge {
+        Knowledge::Known => 1,
+        Knowledge::Unknown => 0,
     }
 }
 

@@ -1,8 +1,10 @@
--- The C boundary of the tally: the nine numbers that a tally is lent as, and those after an update.
+-- The C boundary of the tally: the nine numbers that a tally is lent as, and the struct that an update's answer is
+-- returned as. Kind 0 is a refusal, 1 an update done.
 use Rattle.std.specs.Prelude.{ℕ, ◌%◌, ◌^◌, List, [], ◌∷◌, get_or}
 use Rattle.refusals.specs.Refusals.{Answer, refused, given}
 use Rattle.tally_rules.specs.declared.Tally.{Tally}
 use Rattle.tally_rules.specs.declared.Entry.{Entry}
+use Rattle.boundary_tally.specs.declared.Done.{Done}
 
 -- the tally of nine numbers: records, received, commands, octets included, lost, last drop number (modulo 2^32),
 -- truncated, sent, data
@@ -37,6 +39,11 @@ numbers_of t =
 -- zalghimo_btsnoop_tally: its parameters, as what a tally is given of a record
 abbrev pub entry_of : (original included flags drops : ℕ) → Entry
 entry_of original included flags drops = record { original = original; included = included; flags = flags; drops = drops }
+
+-- zalghimo_done
+abbrev pub done_row : Answer Tally → Done
+done_row (refused n q) = record { kind = 0; number = n; place = q }
+done_row (given t) = record { kind = 1; number = 0; place = 0 }
 
 -- the lent numbers after an update: as found where it is refused
 abbrev pub tally_after : List ℕ → Answer Tally → List ℕ

@@ -1,12 +1,20 @@
-// The C boundary of the tally: the nine numbers that a tally is lent as, and what an update answers.
+// The struct of the C boundary for the tally, and the nine numbers that a tally is lent as. Kind 0 is a refusal, 1 an
+// update done.
 ghost use Rattle.std.specs.Prelude.{◌≡◌};
 ghost use Rattle.tally.specs.Says.{outcome_says};
-ghost use Rattle.boundary_done.specs.Rows.{done_row};
-ghost use Rattle.boundary_tally.specs.Rows.{tally_of, numbers_of, tally_after};
+ghost use Rattle.boundary_tally.specs.Rows.{tally_of, numbers_of, done_row, tally_after};
 
-use boundary_done::Done;
 use tally::{Outcome, TallyAnswer};
 use tally_rules::Tally;
+
+// zalghimo_done
+#[repr(C)]
+#[derive(Drop)]
+pub struct Done {
+    pub kind: u64,
+    pub number: u64,
+    pub place: u64,
+}
 
 // What an update answers.
 pub fn row(outcome: Outcome) -> Done
@@ -14,8 +22,16 @@ pub fn row(outcome: Outcome) -> Done
 {
     let answer = outcome.answer;
     match answer {
-        TallyAnswer::Refused(refusal) => boundary_done::refused(refusal),
-        TallyAnswer::Done => boundary_done::filled(),
+        TallyAnswer::Refused(refusal) => Done {
+            kind: 0,
+            number: refusal.number as u64,
+            place: refusal.place as u64,
+        },
+        TallyAnswer::Done => Done {
+            kind: 1,
+            number: 0,
+            place: 0,
+        },
     }
 }
 

@@ -1,9 +1,7 @@
 // What the flags of an LE pseudo-header tell. Every one of the 16 bits may be set; the flags themselves stay whole in the values.
 ghost use Rattle.std.specs.Prelude.{◌≡◌};
 ghost use Rattle.le_rules.specs.Flags.{pdu_type, phy as phy_of, dependent_bits, dependent as dependent_of, told_by};
-ghost use Rattle.le_flags.specs.Says.{pdu_type_number, phy_number, auxiliary_number, dependent_says, told_says};
-
-use pseudo_header::{Knowledge, knowledge_of};
+ghost use Rattle.le_flags.specs.Says.{pdu_type_number, phy_number, auxiliary_number, dependent_says, knowledge_says, told_says};
 
 // The PDU type (flags bits 7 to 9), in the order of source document 001, counted from 0.
 #[derive(Drop)]
@@ -43,6 +41,13 @@ pub enum Dependent {
     Mic { checked: bool, passed: bool },
 }
 
+// Whether a value is known.
+#[derive(Drop)]
+pub enum Knowledge {
+    Known,
+    Unknown,
+}
+
 // What the flags tell: each of four values as known or not, the PDU type, the PHY, and the bits that depend on the type.
 #[derive(Drop)]
 pub struct Told {
@@ -70,6 +75,17 @@ pub fn told_by(flags: u16) -> Told
         pdu: pdu_type_of(flags),
         phy: phy_of(flags),
         dependent: dependent_of(flags),
+    }
+}
+
+// Known where the value's flag is set.
+fn knowledge_of(set: bool) -> Knowledge
+    ensures { knowledge_says result ≡ set }
+{
+    if set {
+        Knowledge::Known
+    } else {
+        Knowledge::Unknown
     }
 }
 

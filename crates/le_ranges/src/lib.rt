@@ -31,7 +31,7 @@ const CODED_PHY: u16 = 2;
 
 // The refusal of a channel above the highest, at the channel's place.
 const CHANNEL_ABOVE: Refusal = Refusal {
-    number: refusals::RF_CHANNEL,
+    number: 8,
     place: 0,
 };
 // The refusal of the reserved PDU type, at the flags' place.

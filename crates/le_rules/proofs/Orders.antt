@@ -3,6 +3,7 @@
 -- Assumes nothing.
 use Prim.Native.Nat.{ℕ, ◌+◌, ◌≤◌}
 use mathlib.Core.Path.{◌≡◌, refl, sym, ap, ◌∙◌, subst}
+use mathlib.Core.Logic.{◌↔◌}
 use mathlib.Core.Bool.{Bool, true, false, cond}
 use mathlib.Core.List.{List}
 use lib.ListN.{length, drop}
@@ -10,12 +11,17 @@ use native.Mathlib.Omega.{arith}
 use lib.Dec.{leb, ltb, eqb}
 use borrow.Author.Tests.{ltb-true, ltb-false, leb-true, leb-false, eqb-true, eqb-false, lt-ltb, le-ltb, le-leb, lt-leb, eq-eqb, ne_eqb}
 use Rattle.refusals.specs.Refusals.{Answer, refused, given}
-use Rattle.refusals.proofs.Orders.{by_cases, not_refused, other-number}
+use Rattle.refusals.proofs.Orders.{not_refused, other-number}
 use Rattle.le_rules.specs.declared.Values.{Values}
 use Rattle.le_rules.specs.Flags.{pdu_type, phy}
 use Rattle.le_rules.specs.Reading.{header_length, values_in, Fault, fault_number, fault_place, channel_above, pdu_type_reserved, phy_reserved, last_channel, reserved_type, reserved_phy, Range, out_of, within, range_of, least_packet, Header, reading_of}
 use Rattle.le_rules.specs.Writing.{writing}
 use Rattle.le_rules.specs.Orders.{JudgedAs, channel_fault, pdu_type_fault, phy_fault, no_fault, RangeExactly, Judged, Reads, ReadingExactly, Writes, WritingExactly, FaultExactly, FaultsExactly}
+
+-- cases that tell what is answered, and one of them that is there: an answer is given exactly in its case
+exactly : {A : Type 0} (Case : A → Type 0) (x : A) → ((a : A) → Case a → x ≡ a) → (a : A) × Case a → (b : A)
+    → (x ≡ b) ↔ Case b
+exactly Case x told found b = (λ e. subst Case (sym (told found.0 found.1) ∙ e) found.1, told b)
 
 module _ (channel flags : ℕ) where
   -- what each case of channel and flags is judged as
@@ -42,7 +48,7 @@ module _ (channel flags : ℕ) where
 
 pub range-exactly : RangeExactly
 range-exactly channel flags r =
-    by_cases (JudgedAs channel flags) (range_of channel flags) (range_is channel flags) (in_range channel flags) r
+    exactly (JudgedAs channel flags) (range_of channel flags) (range_is channel flags) (in_range channel flags) r
 
 module _ (s : List ℕ) where
   abbrev v : Values
@@ -79,7 +85,7 @@ module _ (s : List ℕ) where
 
 pub reading-exactly : ReadingExactly
 reading-exactly s a =
-    by_cases (Reads s) (reading_of s) (reading_is s) (reads s) a
+    exactly (Reads s) (reading_of s) (reading_is s) (reads s) a
 
 module _ (size at : ℕ) (v : Values) (packet : List ℕ) where
   abbrev next : ℕ
@@ -113,7 +119,7 @@ module _ (size at : ℕ) (v : Values) (packet : List ℕ) where
 
 pub writing-exactly : WritingExactly
 writing-exactly size at v packet a =
-    by_cases (Writes size at v packet) (writing size at v packet) (writing_is size at v packet) (writes size at v packet) a
+    exactly (Writes size at v packet) (writing size at v packet) (writing_is size at v packet) (writes size at v packet) a
 
 -- the fault that a number tells
 abbrev fault_of : (number : ℕ) → Range

@@ -3,19 +3,16 @@
 -- Assumes nothing.
 use Prim.Native.Nat.{ℕ, zero, suc, ◌+◌, ◌≤◌}
 use mathlib.Core.Path.{◌≡◌, refl, sym, ap, ◌∙◌}
-use mathlib.Core.List.{List, [], ◌∷◌, append-nil}
+use mathlib.Core.List.{List, [], ◌∷◌}
 use native.Mathlib.Omega.{arith}
-use lib.ListN.{length, get_or, drop, length-drop}
+use lib.ListN.{length, take, drop, length-drop}
 use Rattle.refusals.specs.Refusals.{given}
 use Rattle.octets.specs.Numbers.{little, octets_of, number_at, Octets}
 use Rattle.octets.specs.Signed.{signed, unsigned}
 use Rattle.octets.specs.Parts.{splice}
 use Rattle.octets.proofs.Laws as Numbers
-use Rattle.octets.proofs.Laws.{octet_at}
 use Rattle.octets.proofs.Signs.{twos_complement}
-use Rattle.octets.proofs.PartLaws.{part-splice}
-use Rattle.pseudo_header.proofs.Layouts.{octet_field, fields_back}
-use Rattle.pseudo_header.proofs.Writes.{splice-only}
+use Rattle.octets.proofs.PartLaws.{part-splice, length-splice, splice-before, splice-behind}
 use Rattle.le_rules.specs.declared.Values.{Values}
 use Rattle.le_rules.specs.Reading.{header_length, values_in, within, least_packet, Header, header_of, reading_of, packet_of, packet_in}
 use Rattle.le_rules.specs.Writing.{header_octets, octets_for, writing, written}
@@ -110,22 +107,37 @@ only_written out at next v packet w =
     let a = accepted_write (length out) at next v packet w in
     let s : List ℕ = octets_for v packet in
     let size : length s ≡ header_length + length packet = length-octets v packet in
-    rw (w, ← size) (splice-only out at s (omega arith))
+    record {
+      long = rw w (length-splice out at s (omega arith));
+      before = rw w (splice-before out at s (omega arith));
+      after = rw (w, ← size) (splice-behind out at s (omega arith));
+    }
 
--- the widths of the fields
-abbrev widths : List ℕ
-widths = 1 ∷ 1 ∷ 1 ∷ 1 ∷ 4 ∷ 2 ∷ []
+-- an input of so many octets or more, octet by octet
+data From : ℕ → List ℕ → Type 0 where
+  rest : (s : List ℕ) → From zero s
+  octet : (x : ℕ) {n : ℕ} {s : List ℕ} → From n s → From (suc n) (x ∷ s)
+
+octets-from : (n : ℕ) (s : List ℕ) → n ≤ length s → From n s
+octets-from zero s l = rest s
+octets-from (suc n) [] l = absurd (omega arith)
+octets-from (suc n) (x ∷ s) l = octet x (octets-from n s (omega arith))
 
 -- the octets for the values that were read are those of the input
 octets_back : (s : List ℕ) → Octets s → header_length ≤ length s → octets_for (values_in s) (drop header_length s) ≡ s
-unfolding values_in header_octets
-octets_back s o l =
-    let signal : unsigned 8 (signed 8 (get_or s 1 0)) ≡ get_or s 1 0 = (twos_complement 7).to_bits (get_or s 1 0) (octet_at s 1 o) in
-    let noise : unsigned 8 (signed 8 (get_or s 2 0)) ≡ get_or s 2 0 = (twos_complement 7).to_bits (get_or s 2 0) (octet_at s 2 o) in
-    let single = octet_field little s o in
-    let flags : List ℕ = octets_of little 2 (number_at little 2 s 8) in
-    let fields = rw (single 0, single 1, single 2, single 3, append-nil flags) at (fields_back little widths s o l) in
-    rw (signal, noise) fields
+unfolding values_in header_octets number_at
+octets_back s o l = go (octets-from header_length s l) o
+  where
+    go : {s : List ℕ} → From header_length s → Octets s → octets_for (values_in s) (drop header_length s) ≡ s
+    go (octet a (octet b (octet c (octet d (octet e (octet f (octet g (octet h (octet i (octet j (rest s))))))))))) o =
+        let signal : unsigned 8 (signed 8 b) ≡ b = (twos_complement 7).to_bits b o.1.0 in
+        let noise : unsigned 8 (signed 8 c) ≡ c = (twos_complement 7).to_bits c o.1.1.0 in
+        let fifth : Octets (e ∷ f ∷ g ∷ h ∷ i ∷ j ∷ s) = o.1.1.1.1 in
+        let ninth : Octets (i ∷ j ∷ s) = fifth.1.1.1.1 in
+        let reference =
+        Numbers.write_after_read little (e ∷ f ∷ g ∷ h ∷ []) (Numbers.octets-take 4 (e ∷ f ∷ g ∷ h ∷ i ∷ j ∷ s) fifth) in
+        let flags = Numbers.write_after_read little (i ∷ j ∷ []) (Numbers.octets-take 2 (i ∷ j ∷ s) ninth) in
+        rw (signal, noise, reference, flags)
 
 -- and they can be written wherever there is room
 rewritten : (s : List ℕ) (h : Header) → AcceptedRead s h → (size at : ℕ) → at + length s ≤ size

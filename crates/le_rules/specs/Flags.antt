@@ -1,6 +1,9 @@
 -- Document 01, "LE pseudo-header": what the flags tell. The flags are kept whole, reserved bits too.
 use Rattle.std.specs.Prelude.{ℕ, ◌/◌, ◌%◌, ◌^◌, Bool, cond, eqb}
-use Rattle.pseudo_header.specs.Flags.{flag}
+
+-- whether a flag bit is set
+abbrev pub flag : (bit flags : ℕ) → Bool
+flag bit flags = eqb (flags / 2 ^ bit % 2) 1
 
 -- each value is known or not by its flag: signal by 0x0002, noise by 0x0004, reference address by 0x0010, offences by 0x0020
 abbrev pub signal_known : (flags : ℕ) → Bool

@@ -1,6 +1,6 @@
 -- Document 01, "LE pseudo-header": the reading of ten octets and a packet.
 use Rattle.std.specs.Prelude.{ℕ, Bool, cond, List, [], length, get_or, drop, leb, ltb, eqb}
-use Rattle.refusals.specs.Refusals.{Answer, refused, given, short_header, short_packet, rf_channel}
+use Rattle.refusals.specs.Refusals.{Answer, refused, given, short_header, short_packet}
 use Rattle.octets.specs.Numbers.{little, number_at}
 use Rattle.octets.specs.Signed.{signed}
 use Rattle.le_rules.specs.declared.Values.{Values}
@@ -30,7 +30,7 @@ pub data Fault : Type 0 where
 
 -- the number of each (request W-202): 8 for the channel, 21 for the PDU type, 22 for the PHY
 abbrev pub fault_number : Fault → ℕ
-fault_number channel_above = rf_channel
+fault_number channel_above = 8
 fault_number pdu_type_reserved = 21
 fault_number phy_reserved = 22
 

@@ -1,10 +1,9 @@
 -- What holds of writing and reading a pseudo-header together. Proofs: proofs/RoundTrip.antt.
-use Rattle.std.specs.Prelude.{ℕ, ◌+◌, ◌^◌, ◌<◌, ◌≤◌, ◌≡◌, List, length}
+use Rattle.std.specs.Prelude.{ℕ, ◌+◌, ◌^◌, ◌<◌, ◌≤◌, ◌≡◌, List, length, take, drop}
 use Rattle.std.specs.Int.Signed.{mag}
 use Rattle.refusals.specs.Refusals.{given}
 use Rattle.octets.specs.Numbers.{Octets}
 use Rattle.octets.specs.Parts.{part}
-use Rattle.pseudo_header.specs.Writes.{WritesOnly}
 use Rattle.le_rules.specs.declared.Values.{Values}
 use Rattle.le_rules.specs.Reading.{header_length, Header, header_of, reading_of, packet_in}
 use Rattle.le_rules.specs.Writing.{octets_for, writing, written}
@@ -37,7 +36,11 @@ abbrev pub WriteAfterRead : Type 0
 WriteAfterRead = (s : List ℕ) (h : Header) → Octets s → reading_of s ≡ given h → WritesBack s h
 
 -- an accepted write changes only the octets written
+pub record WritesOnly (out : List ℕ) (at : ℕ) (v : Values) (packet : List ℕ) : Type 0 where
+  pub long : length (written out at v packet) ≡ length out
+  pub before : take at (written out at v packet) ≡ take at out
+  pub after : drop (at + (header_length + length packet)) (written out at v packet) ≡ drop (at + (header_length + length packet)) out
+
 abbrev pub OnlyWritten : Type 0
 OnlyWritten = (out : List ℕ) (at next : ℕ) (v : Values) (packet : List ℕ)
-    → writing (length out) at v packet ≡ given next
-    → WritesOnly out at (header_length + length packet) (written out at v packet)
+    → writing (length out) at v packet ≡ given next → WritesOnly out at v packet

@@ -1,4 +1,6 @@
 // Reading numbers of 16, 32 and 64 bits, in both orders, at a place of an input. Past the input's end an octet counts as 0.
+#![tactic(auto)]
+
 ghost use Rattle.std.specs.Prelude.{◌≡◌, [], ◌∷◌};
 ghost use Rattle.octets.specs.Numbers.{little, big, number, number_at};
 

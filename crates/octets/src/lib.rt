@@ -1,5 +1,7 @@
 // Reading octets and parts at a place of an input, and whether an output has room. Every function has an answer for
 // every input: past the end of an input an octet is 0.
+#![tactic(auto)]
+
 ghost use Rattle.std.specs.Prelude.{◌≡◌, ◌+◌, get_or};
 ghost use Rattle.octets.specs.Parts.{part as part_of, has_room};
 

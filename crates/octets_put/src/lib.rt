@@ -1,5 +1,7 @@
 // Writing octets, and numbers of 16, 32 and 64 bits in both orders, into an output at a place. Without room for all
 // of them nothing is written.
+#![tactic(auto)]
+
 ghost use Rattle.std.specs.Prelude.{◌≡◌};
 ghost use Rattle.octets.specs.Numbers.{little, big, octets_of};
 ghost use Rattle.octets.specs.Parts.{put as put_at};

@@ -194,9 +194,9 @@ pub and_true : (t : Bool) → (t && true) ≡ t
 and_true true = refl
 and_true false = refl
 
-and_false : (t : Bool) → (t && false) ≡ false
-and_false true = refl
-and_false false = refl
+and-false : (t : Bool) → (t && false) ≡ false
+and-false true = refl
+and-false false = refl
 
 -- the bits of a word that carry a field
 field-bit : (word bit : ℕ) → bit < word_bits → bit_set (bit_and word 1610612735) bit ≡ carries_field word bit
@@ -210,7 +210,7 @@ module _ (before word : ℕ) where
     strange =
         λ bit h.
         none-set bit
-        ∙ sym (and_false (carries_field word bit))
+        ∙ sym (and-false (carries_field word bit))
         ∙ ap (λ (t : Bool). carries_field word bit && not t) (sym set);
   }
 

@@ -3,7 +3,7 @@
 -- Assumes nothing.
 use Prim.Native.Nat.{ℕ, ◌≤◌, ◌<◌}
 use mathlib.Core.Path.{◌≡◌, refl, sym, ap, ◌∙◌, subst, subst₂}
-use mathlib.Core.Bool.{Bool, true, false, cond, ◌&&◌, and-eq-true_iff, and_false}
+use mathlib.Core.Bool.{Bool, true, false, cond, ◌&&◌, and-eq-true_iff, and-false}
 use mathlib.Core.Logic.{◌⊎◌, inl, inr}
 use mathlib.Core.List.{List}
 use native.Mathlib.Omega.{arith}
@@ -84,7 +84,7 @@ fixed_refused s (other_version long other) = rw (le-ltb (length s) fixed_length 
 fixed_refused s (wrong_length long version (inl l)) =
     rw (le-ltb (length s) fixed_length long, version, lt-leb fixed_length (length_in s) l)
 fixed_refused s (wrong_length long version (inr l)) =
-    rw (le-ltb (length s) fixed_length long, version, lt-leb (length_in s) (length s) l, and_false (leb fixed_length (length_in s)))
+    rw (le-ltb (length s) fixed_length long, version, lt-leb (length_in s) (length s) l, and-false (leb fixed_length (length_in s)))
 
 pub fixed_exactly : FixedExactly
 fixed_exactly s =

@@ -2,7 +2,7 @@
 -- Assumes nothing.
 use Prim.Native.Nat.{ℕ, zero, suc, ◌+◌, ◌-◌, ◌≤◌, ◌<◌}
 use mathlib.Core.Path.{◌≡◌, refl, ◌∙◌}
-use mathlib.Core.Bool.{Bool, true, false, cond, ◌&&◌, and_false}
+use mathlib.Core.Bool.{Bool, true, false, cond, ◌&&◌, and-false}
 use mathlib.Core.List.{List, [], ◌∷◌}
 use native.Mathlib.Omega.{arith}
 use native.Mathlib.Nat.{lt-div-mul-add, div-eq_of_lt}
@@ -123,7 +123,7 @@ module _ (s : List ℕ) (size q : ℕ) (here known : Bool) where
   walked_past : (at : ℕ) (ps : List Planned) (x : Walk) → WalkedTo s size at ps known x → WalkedTo s size at ps (here && known) x
   walked_past at ps (refused_at w b p) h = h
   walked_past at ps (shown fs ended) h = h
-  walked_past at ps (shown fs (stopped w b)) h = rw h (and_false here)
+  walked_past at ps (shown fs (stopped w b)) h = rw h (and-false here)
 
   -- a field more, which ends inside the length
   walked-field : (at : ℕ) (r : Row) (ps : List Planned) (x : Walk) → word_at q ≡ 0
@@ -131,7 +131,7 @@ module _ (s : List ℕ) (size q : ℕ) (here known : Bool) where
       → WalkedTo s size at (with_plan q (field r) ps) (here && known) (with_field (field_at s q (aligned r.alignment at) r.size) x)
   walked-field at r ps (refused_at w b p) zeroth h = h
   walked-field at r ps (shown fs ended) zeroth h = (rw (zeroth, h.0), h.1)
-  walked-field at r ps (shown fs (stopped w b)) zeroth h = rw h (and_false here)
+  walked-field at r ps (shown fs (stopped w b)) zeroth h = rw h (and-false here)
 
   walked-meaning : (at : ℕ) (m : Meaning) (ps : List Planned) (rest : ℕ → Walk) → word_at q ≡ 0 → Aligned (with_plan q m ps)
       → (m ≡ unknown_here → here ≡ false) → at ≤ size → ((at : ℕ) → at ≤ size → WalkedTo s size at ps known (rest at))

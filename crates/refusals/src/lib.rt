@@ -1,5 +1,7 @@
 // A refusal, the refusal numbers of document 01 that several formats give, and what a writer answers.
 // A number that one crate alone gives is named in that crate.
+#![tactic(auto)]
+
 ghost use Rattle.std.specs.Prelude.{◌≡◌};
 ghost use Rattle.refusals.specs.Refusals.{refused as Refused};
 ghost use Rattle.refusals.specs.Says.{write_says};

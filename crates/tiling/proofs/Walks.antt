@@ -2,7 +2,7 @@
 -- Assumes nothing.
 use Prim.Native.Nat.{ℕ, zero, suc, ◌+◌, ◌-◌, ◌≤◌, ◌<◌}
 use mathlib.Core.Path.{◌≡◌, refl, sym, ap, ◌∙◌}
-use mathlib.Core.Bool.{cond, ◌&&◌, and_false}
+use mathlib.Core.Bool.{cond, ◌&&◌, and-false}
 use mathlib.Core.Logic.{◌⊎◌, inl, inr}
 use mathlib.Core.List.{List, [], ◌∷◌}
 use native.Mathlib.Omega.{arith}
@@ -48,7 +48,7 @@ module _ {A : Type 0} (low high : ℕ) (step : ℕ → Answer (Next A)) where
           → cond (leb low p && leb p high) (survey_of (walk step n p)) (record { count = 0; ending = broken record_place p })
           ≡ record { count = 0; ending = broken record_place p }
       outside (inl l) = rw (lt-leb low p l)
-      outside (inr h) = rw (lt-leb p high h, and_false (leb low p))
+      outside (inr h) = rw (lt-leb p high h, and-false (leb low p))
 
   -- the count is the number of items between the start and the place reached
   pub count_is_passed : CountIsPassed low high step

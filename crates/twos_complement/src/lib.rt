@@ -1,5 +1,7 @@
 // Two's complement at 8, 16 and 64 bits: the signed number that bits stand for, at 64 bits from its halves, and back; and
 // a number of 8 or 16 bits in 64.
+#![tactic(auto)]
+
 ghost use Rattle.std.specs.Prelude.{◌≡◌, pos};
 ghost use Rattle.octets.specs.Signed.{signed, unsigned, from_halves};
 

@@ -6,7 +6,7 @@ ghost use Rattle.vectors.specs.Questions.{is_among};
 
 use crate::question_lines;
 use crate::question_lines::low32;
-use boundary_done::Done;
+use boundary_tally::Done;
 use tally::Outcome;
 use tally_rules::{Entry, Tally};
 

@@ -1,10 +1,9 @@
 // The function of the tally, as the C boundary has it.
 ghost use Rattle.std.specs.Prelude.{◌≡◌};
 ghost use Rattle.tally_rules.specs.Tally.{updating};
-ghost use Rattle.boundary_done.specs.Rows.{done_row};
-ghost use Rattle.boundary_tally.specs.Rows.{tally_of, entry_of, tally_after};
+ghost use Rattle.boundary_tally.specs.Rows.{tally_of, entry_of, done_row, tally_after};
 
-use boundary_done::Done;
+use boundary_tally::Done;
 use tally_rules::Entry;
 
 // Adds a record to a lent tally of nine numbers, or refuses and leaves the tally as found.

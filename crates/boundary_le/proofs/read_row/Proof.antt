@@ -15,8 +15,8 @@ use Rattle.boundary_le.proofs.read_row.Tie as tie
 itself : (w : Width) {z : ℤ} → mag z < 2 ^ hbits w → to_z w (of_z w z) ≡ z
 itself w {z} h = to_z-of_z {w = w} {z = z} (record { sfits = h })
 
-cast-t10 : tie.Need-overflow-cast-t10
-cast-t10 c = search rules
+cast-t6 : tie.Need-overflow-cast-t6
+cast-t6 c = search rules
 
 wide-requires : tie.Need-wide-requires
 wide-requires c κs = search rules
@@ -24,14 +24,14 @@ wide-requires c κs = search rules
 wide-requires-2 : tie.Need-wide-requires-2
 wide-requires-2 c κs = search rules
 
-cast-t13 : tie.Need-overflow-cast-t13
-cast-t13 c = search rules
+cast-t9 : tie.Need-overflow-cast-t9
+cast-t9 c = search rules
 
-cast-t14 : tie.Need-overflow-cast-t14
-cast-t14 c = search rules
+cast-t10 : tie.Need-overflow-cast-t10
+cast-t10 c = search rules
 
-cast-t15 : tie.Need-overflow-cast-t15
-cast-t15 c = search rules
+cast-t11 : tie.Need-overflow-cast-t11
+cast-t11 c = search rules
 
 known-bits-requires : tie.Need-known-bits-requires
 known-bits-requires c κs = search rules
@@ -62,12 +62,12 @@ pub read_row_spec : {M : Type 1} → statement M
 read_row_spec =
     tie.close
     (tie.spec
-    cast-t10
+    cast-t6
     wide-requires
     wide-requires-2
-    cast-t13
-    cast-t14
-    cast-t15
+    cast-t9
+    cast-t10
+    cast-t11
     known-bits-requires
     pdu-number-requires
     phy-number-requires

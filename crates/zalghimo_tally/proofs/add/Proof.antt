@@ -3,8 +3,7 @@
 use mathlib.Core.Path.{ap, ◌∙◌}
 use Rattle.tally_rules.specs.declared.Tally.{Tally}
 use Rattle.tally_rules.specs.Tally.{updating}
-use Rattle.boundary_done.specs.Rows.{done_row}
-use Rattle.boundary_tally.specs.Rows.{entry_of, tally_after}
+use Rattle.boundary_tally.specs.Rows.{entry_of, done_row, tally_after}
 use borrow.Author.Rules.{rules}
 use Rattle.zalghimo_tally.proofs.add.Statement.{statement}
 use Rattle.zalghimo_tally.proofs.add.Tie as tie
