@@ -12,7 +12,7 @@ use btsnoop_survey::{FileAnswer, SurveyAnswer};
 
 // zalghimo_header
 #[repr(C)]
-#[derive(Drop)]
+#[derive(Clone, Copy)]
 pub struct Header {
     pub kind: u64,
     pub number: u64,
@@ -22,7 +22,7 @@ pub struct Header {
 
 // zalghimo_file
 #[repr(C)]
-#[derive(Drop)]
+#[derive(Clone, Copy)]
 pub struct File {
     pub kind: u64,
     pub number: u64,
@@ -33,7 +33,7 @@ pub struct File {
 
 // zalghimo_survey
 #[repr(C)]
-#[derive(Drop)]
+#[derive(Clone, Copy)]
 pub struct Survey {
     pub kind: u64,
     pub number: u64,
@@ -44,7 +44,7 @@ pub struct Survey {
 
 // zalghimo_earlier
 #[repr(C)]
-#[derive(Drop)]
+#[derive(Clone, Copy)]
 pub struct Earlier {
     pub kind: u64,
     pub number: u64,

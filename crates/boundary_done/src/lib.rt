@@ -6,7 +6,7 @@ use refusals::Refusal;
 
 // zalghimo_done
 #[repr(C)]
-#[derive(Drop)]
+#[derive(Clone, Copy)]
 pub struct Done {
     pub kind: u64,
     pub number: u64,

@@ -11,7 +11,7 @@ use le_rules::{HEADER_LENGTH, Values};
 
 // zalghimo_le
 #[repr(C)]
-#[derive(Drop)]
+#[derive(Clone, Copy)]
 pub struct Le {
     pub kind: u64,
     pub number: u64,

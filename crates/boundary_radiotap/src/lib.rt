@@ -4,7 +4,7 @@ pub mod rows;
 
 // zalghimo_radiotap
 #[repr(C)]
-#[derive(Drop)]
+#[derive(Clone, Copy)]
 pub struct Radiotap {
     pub kind: u64,
     pub number: u64,
@@ -19,7 +19,7 @@ pub struct Radiotap {
 
 // zalghimo_word
 #[repr(C)]
-#[derive(Drop)]
+#[derive(Clone, Copy)]
 pub struct Word {
     pub kind: u64,
     pub number: u64,
@@ -29,7 +29,7 @@ pub struct Word {
 
 // zalghimo_field
 #[repr(C)]
-#[derive(Drop)]
+#[derive(Clone, Copy)]
 pub struct Field {
     pub kind: u64,
     pub number: u64,

@@ -10,7 +10,7 @@ use number_at::be32;
 
 // zalghimo_record
 #[repr(C)]
-#[derive(Drop)]
+#[derive(Clone, Copy)]
 pub struct Record {
     pub kind: u64,
     pub number: u64,

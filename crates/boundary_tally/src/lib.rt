@@ -9,7 +9,7 @@ use tally_rules::Tally;
 
 // zalghimo_done
 #[repr(C)]
-#[derive(Drop)]
+#[derive(Clone, Copy)]
 pub struct Done {
     pub kind: u64,
     pub number: u64,

@@ -7,7 +7,7 @@ use capture_time::{FieldAnswer, TimeAnswer};
 
 // zalghimo_time
 #[repr(C)]
-#[derive(Drop)]
+#[derive(Clone, Copy)]
 pub struct Time {
     pub kind: u64,
     pub number: u64,
@@ -18,7 +18,7 @@ pub struct Time {
 
 // zalghimo_time_field
 #[repr(C)]
-#[derive(Drop)]
+#[derive(Clone, Copy)]
 pub struct TimeField {
     pub kind: u64,
     pub number: u64,

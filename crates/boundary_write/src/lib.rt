@@ -7,7 +7,7 @@ use refusals::WriteAnswer;
 
 // zalghimo_written
 #[repr(C)]
-#[derive(Drop)]
+#[derive(Clone, Copy)]
 pub struct Written {
     pub kind: u64,
     pub number: u64,

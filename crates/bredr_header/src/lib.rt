@@ -10,7 +10,7 @@ use pseudo_header::{Knowledge, knowledge_of};
 use refusals::Refusal;
 
 // The four values whose validity has a flag, each as known or not. Every other value is known.
-#[derive(Drop)]
+#[derive(Clone, Copy)]
 pub struct Told {
     pub signal: Knowledge,
     pub noise: Knowledge,
@@ -19,7 +19,7 @@ pub struct Told {
 }
 
 // What reading a pseudo-header answers: the refusal, or its values and what its flags tell.
-#[derive(Drop)]
+#[derive(Clone, Copy)]
 pub enum BredrAnswer {
     Refused(Refusal),
     Read { values: Values, told: Told },

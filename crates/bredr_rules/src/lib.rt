@@ -7,7 +7,7 @@ pub const HEADER_LENGTH: usize = 22;
 pub const LAST_CHANNEL: u8 = 78;
 
 // The values in a pseudo-header's 22 octets.
-#[derive(Drop)]
+#[derive(Clone, Copy)]
 pub struct Values {
     pub rf_channel: u8,
     pub signal: i8,

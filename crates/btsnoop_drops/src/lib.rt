@@ -1,4 +1,6 @@
 // Drops between two BTSnoop records.
+#![tactic(auto)]
+
 ghost use Rattle.std.specs.Prelude.{◌≡◌};
 ghost use Rattle.btsnoop_rules.specs.Drops.{drops_between};
 

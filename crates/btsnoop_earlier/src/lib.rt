@@ -1,5 +1,7 @@
 // The earlier of two BTSnoop captures, given a place in each: the packet part of the record with the smaller time, and
 // the answer beside it, by a second function of the same inputs.
+#![tactic(auto)]
+
 ghost use Rattle.std.specs.Prelude.{◌≡◌, cond, eqb};
 ghost use Rattle.std.specs.Int.Signed.{le_z};
 ghost use Rattle.octets.specs.Parts.{part};
@@ -14,14 +16,14 @@ use btsnoop_rules::Numbers;
 use refusals::Refusal;
 
 // One of the two captures.
-#[derive(Drop)]
+#[derive(Clone, Copy)]
 pub enum Capture {
     First,
     Second,
 }
 
 // The answer: the refusal and its capture, both at their end, or the capture with its packet's place and length there.
-#[derive(Drop)]
+#[derive(Clone, Copy)]
 pub enum EarlierAnswer {
     Refused {
         capture: Capture,

@@ -1,4 +1,6 @@
 // Reading the BTSnoop file header, version 1.
+#![tactic(auto)]
+
 ghost use Rattle.std.specs.Prelude.{◌≡◌};
 ghost use Rattle.btsnoop_rules.specs.Header.{header_at, header_judged, served as served_code};
 ghost use Rattle.btsnoop_header.specs.Says.{header_says};
@@ -16,7 +18,7 @@ const FIRST_DATALINK: u32 = 1001;
 const LAST_DATALINK: u32 = 1004;
 
 // What reading a file header answers: the refusal, or the datalink code.
-#[derive(Drop)]
+#[derive(Clone, Copy)]
 pub enum HeaderAnswer {
     Refused(Refusal),
     Accepted(u32),

@@ -1,4 +1,6 @@
 // The numbers in a record's 24 octets, held apart from an input.
+#![tactic(auto)]
+
 ghost use Rattle.std.specs.Prelude.{◌≡◌};
 ghost use Rattle.btsnoop_rules.specs.Record.{numbers_at};
 

@@ -1,4 +1,6 @@
 // Reading one BTSnoop record at a place, its packet, and what its flags say.
+#![tactic(auto)]
+
 ghost use Rattle.std.specs.Prelude.{◌≡◌, ◌+◌, ◌^◌, ◌<◌, ◌≤◌, length};
 ghost use Rattle.refusals.specs.Refusals.{refused as Refused};
 ghost use Rattle.btsnoop_rules.specs.Record.{record_length, numbers_at, received as is_received, command as is_command, record_judged, record_at, packet_at};
@@ -9,7 +11,7 @@ use refusals::Refusal;
 
 // What reading a record answers: the refusal, the input's end, or a whole record with the place of its packet and of
 // the next record.
-#[derive(Drop)]
+#[derive(Clone, Copy)]
 pub enum RecordAnswer {
     Refused(Refusal),
     End,

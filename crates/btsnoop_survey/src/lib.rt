@@ -1,4 +1,6 @@
 // The survey of a BTSnoop file by instalments, and the check of a whole file.
+#![tactic(auto)]
+
 ghost use Rattle.std.specs.Prelude.{◌≡◌, ◌≤◌, length};
 ghost use Rattle.btsnoop_rules.specs.Header.{header_length};
 ghost use Rattle.btsnoop_rules.specs.File.{survey_at, file_of, file_at};
@@ -9,7 +11,7 @@ use btsnoop_rules::{HEADER_LENGTH, RECORD_LENGTH};
 use refusals::Refusal;
 
 // What a survey answers: how many records it passed, and the place reached or the refusal.
-#[derive(Drop)]
+#[derive(Clone, Copy)]
 pub enum SurveyAnswer {
     End { count: usize, reached: usize },
     More { count: usize, reached: usize },
@@ -17,7 +19,7 @@ pub enum SurveyAnswer {
 }
 
 // What the check of a file answers: the refusal, or the datalink code and the number of records.
-#[derive(Drop)]
+#[derive(Clone, Copy)]
 pub enum FileAnswer {
     Refused(Refusal),
     Accepted { datalink: u32, records: usize },
@@ -69,7 +71,7 @@ pub fn survey(s: &[u8], place: usize, number: usize) -> SurveyAnswer
 }
 
 // What a survey meets at a place: the refusal, the input's end, or a whole record and the place of the next.
-#[derive(Drop)]
+#[derive(Clone, Copy)]
 enum Step {
     Refused(Refusal),
     End,

@@ -34,14 +34,14 @@ const LATEST_SECONDS: i64 = 9_161_203_780_854;
 const LATEST_MICROSECONDS: u32 = 775_807;
 
 // What reading a field gives.
-#[derive(Drop)]
+#[derive(Clone, Copy)]
 pub enum TimeAnswer {
     Refused(Refusal),
     Time { seconds: i64, microseconds: u32 },
 }
 
 // What writing a time gives.
-#[derive(Drop)]
+#[derive(Clone, Copy)]
 pub enum FieldAnswer {
     Refused(Refusal),
     Field(i64),

@@ -4,7 +4,7 @@ ghost use Rattle.le_rules.specs.Flags.{pdu_type, phy as phy_of, dependent_bits, 
 ghost use Rattle.le_flags.specs.Says.{pdu_type_number, phy_number, auxiliary_number, dependent_says, knowledge_says, told_says};
 
 // The PDU type (flags bits 7 to 9), in the order of source document 001, counted from 0.
-#[derive(Drop)]
+#[derive(Clone, Copy)]
 pub enum PduType {
     AdvertisingOrData,
     AuxiliaryAdvertising,
@@ -17,7 +17,7 @@ pub enum PduType {
 }
 
 // The PHY (flags bits 14 and 15), in the order of source document 001, counted from 0.
-#[derive(Drop)]
+#[derive(Clone, Copy)]
 pub enum Phy {
     Le1M,
     Le2M,
@@ -26,7 +26,7 @@ pub enum Phy {
 }
 
 // The auxiliary kind (flags bits 12 and 13 for PDU type 1), in the order of source document 001, counted from 0.
-#[derive(Drop)]
+#[derive(Clone, Copy)]
 pub enum AuxiliaryKind {
     AuxAdvInd,
     AuxChainInd,
@@ -35,21 +35,21 @@ pub enum AuxiliaryKind {
 }
 
 // What flags bits 12 and 13 tell: for PDU type 1 the auxiliary kind, otherwise whether the MIC was checked and passed.
-#[derive(Drop)]
+#[derive(Clone, Copy)]
 pub enum Dependent {
     Auxiliary(AuxiliaryKind),
     Mic { checked: bool, passed: bool },
 }
 
 // Whether a value is known.
-#[derive(Drop)]
+#[derive(Clone, Copy)]
 pub enum Knowledge {
     Known,
     Unknown,
 }
 
 // What the flags tell: each of four values as known or not, the PDU type, the PHY, and the bits that depend on the type.
-#[derive(Drop)]
+#[derive(Clone, Copy)]
 pub struct Told {
     pub signal: Knowledge,
     pub noise: Knowledge,

@@ -9,7 +9,7 @@ use le_rules::{HEADER_LENGTH, Values};
 use refusals::Refusal;
 
 // What reading a pseudo-header answers: the refusal, or its values and what its flags tell.
-#[derive(Drop)]
+#[derive(Clone, Copy)]
 pub enum LeAnswer {
     Refused(Refusal),
     Read { values: Values, told: Told },

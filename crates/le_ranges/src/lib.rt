@@ -6,7 +6,7 @@ ghost use Rattle.le_ranges.specs.Says.{fault_says, range_says};
 use refusals::Refusal;
 
 // A value out of range: an RF channel above 39, PDU type 7, PHY 3.
-#[derive(Drop)]
+#[derive(Clone, Copy)]
 pub enum Fault {
     ChannelAbove,
     PduTypeReserved,
@@ -14,7 +14,7 @@ pub enum Fault {
 }
 
 // Channel and flags judged: the first fault, or none.
-#[derive(Drop)]
+#[derive(Clone, Copy)]
 pub enum Range {
     OutOf(Fault),
     Within,

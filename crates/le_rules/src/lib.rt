@@ -5,7 +5,7 @@
 pub const HEADER_LENGTH: usize = 10;
 
 // The values in a pseudo-header's ten octets.
-#[derive(Drop)]
+#[derive(Clone, Copy)]
 pub struct Values {
     pub channel: u8,
     pub signal: i8,

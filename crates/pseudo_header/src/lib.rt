@@ -5,7 +5,7 @@ ghost use Rattle.pseudo_header.specs.Flags.{bit_of, known_bits};
 ghost use Rattle.pseudo_header.specs.Says.{knowledge_says};
 
 // Whether a value is known.
-#[derive(Drop)]
+#[derive(Clone, Copy)]
 pub enum Knowledge {
     Known,
     Unknown,

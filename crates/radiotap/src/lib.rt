@@ -18,7 +18,7 @@ use refusals::Refusal;
 
 // A header as a whole: refused; or how many fields are shown, the frame's place, the pad octet as found, how many
 // presence words, and where the reading stopped if it did.
-#[derive(Drop)]
+#[derive(Clone, Copy)]
 pub enum ReadAnswer {
     Refused(Refusal),
     Ended {

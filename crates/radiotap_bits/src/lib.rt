@@ -9,7 +9,7 @@ pub const FIELD_BITS: u32 = 0x5fff_ffff;
 
 // What a presence word carries: the bits of its fields that are shown, and of those that are unknown; the lowest of
 // these stops a walk.
-#[derive(Drop)]
+#[derive(Clone, Copy)]
 pub struct Carried {
     pub shown: u32,
     pub unknown: u32,

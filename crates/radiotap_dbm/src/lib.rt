@@ -9,7 +9,7 @@ use radiotap_field::FieldAnswer;
 use refusals::Refusal;
 
 // The value of a dBm field; a field that is none has an answer of its own.
-#[derive(Drop)]
+#[derive(Clone, Copy)]
 pub enum DbmAnswer {
     Refused(Refusal),
     End,

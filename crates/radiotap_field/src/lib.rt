@@ -16,7 +16,7 @@ use radiotap_step::Step;
 use refusals::Refusal;
 
 // A field by its number: its word and bit, its start and its size; at and past those shown the end or the named stop.
-#[derive(Drop)]
+#[derive(Clone, Copy)]
 pub enum FieldAnswer {
     Refused(Refusal),
     End,
@@ -49,7 +49,7 @@ pub fn field(s: &[u8], edition: u32, number: usize) -> FieldAnswer
 }
 
 // A field that a walk keeps.
-#[derive(Drop)]
+#[derive(Clone, Copy)]
 struct Kept {
     word: u32,
     bit: u32,
@@ -59,7 +59,7 @@ struct Kept {
 
 // A walk over all fields: refused; or how many fields there are, the one of the number asked for (all 0 where there is
 // none), and where the walk stopped if it did.
-#[derive(Drop)]
+#[derive(Clone, Copy)]
 enum Walked {
     Refused(Refusal),
     Ended {

@@ -12,7 +12,7 @@ pub const RADIOTAP_LENGTH: u32 = 9;
 pub const FIXED_LENGTH: usize = 8;
 
 // The length that the fixed header gives, or the refusal.
-#[derive(Drop)]
+#[derive(Clone, Copy)]
 pub enum FixedAnswer {
     Refused(Refusal),
     Given(u32),

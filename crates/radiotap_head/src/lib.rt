@@ -20,14 +20,14 @@ pub const NINTH_WORD: u32 = 11;
 pub const MOST_WORDS: u8 = 8;
 
 // What stands before the fields, or the refusal.
-#[derive(Drop)]
+#[derive(Clone, Copy)]
 pub enum HeadAnswer {
     Refused(Refusal),
     Given(Head),
 }
 
 // A presence word by its number; the end at and past the last of them.
-#[derive(Drop)]
+#[derive(Clone, Copy)]
 pub enum WordAnswer {
     Refused(Refusal),
     End,

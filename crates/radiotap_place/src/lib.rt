@@ -15,7 +15,7 @@ use radiotap_table::EDITION_ABOVE;
 use refusals::Refusal;
 
 // Where a reader stands: the refusal of the octets that it was made over, or a cursor.
-#[derive(Drop)]
+#[derive(Clone, Copy)]
 pub enum Place {
     Refused(Refusal),
     At(Cursor),

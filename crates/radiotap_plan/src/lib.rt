@@ -10,7 +10,7 @@ pub const FIXED_LENGTH: u32 = 8;
 pub const WORD_BITS: u32 = 32;
 
 // What a presence word asks for in an edition: a bit that it doesn't know; or the header's length and the values'.
-#[derive(Drop)]
+#[derive(Clone, Copy)]
 pub enum Plan {
     Unknown,
     Fields { size: u16, summed: usize },

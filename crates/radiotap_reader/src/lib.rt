@@ -15,7 +15,7 @@ use radiotap_place::Place;
 use radiotap_step::Step;
 
 // A reader: the header, the edition that it is read in, and the reader's place.
-#[derive(Drop)]
+#[derive(Clone, Copy)]
 pub struct FieldReader<'a> {
     pub header: &'a [u8],
     pub edition: u32,

@@ -2,7 +2,7 @@
 // that follow from them (specs/), demand 3 among them.
 
 // What stands before the fields of a header: its length, how many presence words it has, and the first of them.
-#[derive(Drop)]
+#[derive(Clone, Copy)]
 pub struct Head {
     pub size: u32,
     pub words: u8,
@@ -11,7 +11,7 @@ pub struct Head {
 
 // A walk's place in a header: the header's length, how many presence words it has, the position that comes next (bit
 // `position` mod 32 of word `position` div 32), the presence word that it lies in, and the first place no field has.
-#[derive(Drop)]
+#[derive(Clone, Copy)]
 pub struct Cursor {
     pub size: u32,
     pub words: u8,

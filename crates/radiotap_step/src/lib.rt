@@ -15,7 +15,7 @@ use refusals::Refusal;
 pub const FIELD_PAST: u32 = 12;
 
 // What a step meets: a refusal, the end, a stop at a word and bit, or a field and the cursor behind it.
-#[derive(Drop)]
+#[derive(Clone, Copy)]
 pub enum Step {
     Refused(Refusal),
     End,

@@ -63,14 +63,14 @@ pub const READING_DEFAULT: u32 = 1;
 pub const WRITING_DEFAULT: u32 = 1;
 
 // Where the field of a bit lies in an edition: unknown to it, or its start and its size.
-#[derive(Drop)]
+#[derive(Clone, Copy)]
 pub enum Layout {
     Unknown,
     Lies { start: usize, size: u8 },
 }
 
 // What a field takes: the mask of its alignment, by which it starts behind the last place that is not free, and its size.
-#[derive(Drop)]
+#[derive(Clone, Copy)]
 pub struct Span {
     pub mask: usize,
     pub size: u8,

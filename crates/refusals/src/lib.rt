@@ -7,7 +7,7 @@ ghost use Rattle.refusals.specs.Refusals.{refused as Refused};
 ghost use Rattle.refusals.specs.Says.{write_says};
 
 // A refusal: its number, and the place in the input that it speaks of.
-#[derive(Drop)]
+#[derive(Clone, Copy)]
 pub struct Refusal {
     pub number: u32,
     pub place: usize,
@@ -35,7 +35,7 @@ pub const NO_ROOM: u32 = 13;
 pub const RECORD_PLACE: u32 = 17;
 
 // What a writer answers: the refusal, or the place after what was written.
-#[derive(Drop)]
+#[derive(Clone, Copy)]
 pub enum WriteAnswer {
     Refused(Refusal),
     Written(usize),

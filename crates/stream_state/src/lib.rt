@@ -28,7 +28,7 @@ pub const ENDED: u64 = 4;
 // many octets of the current header are held, how many of the current packet were handed out, and the octets held.
 // zalghimo_stream
 #[repr(C)]
-#[derive(Drop)]
+#[derive(Clone, Copy)]
 pub struct Stream {
     pub phase: u64,
     pub number: u64,
@@ -43,7 +43,7 @@ pub struct Stream {
 // octets are a part of the chunk, by its place and size; their position is in the packet.
 // zalghimo_taken
 #[repr(C)]
-#[derive(Drop)]
+#[derive(Clone, Copy)]
 pub struct Taken {
     pub kind: u64,
     pub number: u64,

@@ -13,14 +13,14 @@ pub const SUM_BROKEN: u32 = 23;
 pub const SUM_PAST: u32 = 16;
 
 // What an update answers: the refusal, or nothing more.
-#[derive(Drop)]
+#[derive(Clone, Copy)]
 pub enum TallyAnswer {
     Refused(Refusal),
     Done,
 }
 
 // A tally after an update, and what the update answers.
-#[derive(Drop)]
+#[derive(Clone, Copy)]
 pub struct Outcome {
     pub tally: Tally,
     pub answer: TallyAnswer,

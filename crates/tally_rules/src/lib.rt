@@ -3,7 +3,7 @@
 
 // The tally (document 01's term): records, received, commands, octets included, lost, the last drop number, which is of
 // no account while records is 0, and by request W-204 truncated, sent and data.
-#[derive(Drop)]
+#[derive(Clone, Copy)]
 pub struct Tally {
     pub records: u64,
     pub received: u64,
@@ -17,7 +17,7 @@ pub struct Tally {
 }
 
 // What a tally is given of a record.
-#[derive(Drop)]
+#[derive(Clone, Copy)]
 pub struct Entry {
     pub original: u32,
     pub included: u32,

@@ -1,0 +1,38 @@
+-- `btsnoop_header::judge` meets its contract: the case laws of the judgement, test by test; the identification octets compared as one number.
+use mathlib.Core.Path.{◌≡◌, sym, ap, ◌∙◌}
+use Rattle.refusals.specs.Refusals.{given}
+use Rattle.octets.specs.Numbers.{octets_at}
+use Rattle.btsnoop_rules.specs.Header.{identification_octets, served}
+use Rattle.btsnoop_rules.proofs.HeaderLaws.{identified, not_identified, judged-other, judged-version, judged-datalink, judged-code}
+use Rattle.btsnoop_header.proofs.judge.Goals as goal
+
+pub returns-then-be64-ne-IDENTIFICATION_OCTETS : goal.returns-then-be64-ne-IDENTIFICATION_OCTETS
+returns-then-be64-ne-IDENTIFICATION_OCTETS c =
+    let s = c.args.s.now in
+    sym (judged-other s (not_identified s (λ e. c.if-be64-ne-IDENTIFICATION_OCTETS.true (c.be64.ensures ∙ e))))
+
+pub returns-then-be32-ne-VERSION_NUMBER : goal.returns-then-be32-ne-VERSION_NUMBER
+returns-then-be32-ne-VERSION_NUMBER c =
+    let same : octets_at c.args.s.now 0 8 ≡ identification_octets = identified c.args.s.now (λ i. (c.shared_slice_known-1.given i).fits)
+    (sym c.be64.ensures ∙ c.if-be64-ne-IDENTIFICATION_OCTETS.false) in
+    let s = c.args.s.now in
+    sym (judged-version s same (λ e. c.if-be32-ne-VERSION_NUMBER.true (c.be32.ensures ∙ e)))
+
+pub returns-then-served : goal.returns-then-served
+returns-then-served c =
+    let same : octets_at c.args.s.now 0 8 ≡ identification_octets = identified c.args.s.now (λ i. (c.shared_slice_known-1.given i).fits)
+    (sym c.be64.ensures ∙ c.if-be64-ne-IDENTIFICATION_OCTETS.false) in
+    let s = c.args.s.now in
+    let code = c.be32-datalink.ensures in
+    let version = sym c.be32.ensures ∙ c.if-be32-ne-VERSION_NUMBER.false in
+    ap given code
+    ∙ sym (judged-code s same version (ap served (sym code) ∙ sym c.served.ensures ∙ c.if-served.true))
+
+pub returns-else-served : goal.returns-else-served
+returns-else-served c =
+    let same : octets_at c.args.s.now 0 8 ≡ identification_octets = identified c.args.s.now (λ i. (c.shared_slice_known-1.given i).fits)
+    (sym c.be64.ensures ∙ c.if-be64-ne-IDENTIFICATION_OCTETS.false) in
+    let s = c.args.s.now in
+    let code = c.be32-datalink.ensures in
+    let version = sym c.be32.ensures ∙ c.if-be32-ne-VERSION_NUMBER.false in
+    sym (judged-datalink s same version (ap served (sym code) ∙ sym c.served.ensures ∙ c.if-served.false))
