@@ -1,4 +1,6 @@
 // Writing BTSnoop: the file header and records, into an output at a place.
+#![tactic(auto)]
+
 ghost use Rattle.std.specs.Prelude.{◌≡◌, ◌++◌, ◌+◌, ◌≤◌, length};
 ghost use Rattle.octets.specs.Numbers.{big, octets_of};
 ghost use Rattle.octets.specs.Signed.{unsigned};

@@ -9,16 +9,14 @@ use boundary_le::Le;
 use boundary_write::Written;
 
 // Reads an LE pseudo-header.
-#[unsafe(no_mangle)]
-pub extern "C" fn zalghimo_le_read(input: &[u8]) -> Le
+pub fn zalghimo_le_read(input: &[u8]) -> Le
     ensures { result ≡ le_row (reading_of input.now) }
 {
     zalghimo_le::read(input)
 }
 
 // Writes an LE pseudo-header and its packet into an output at a place.
-#[unsafe(no_mangle)]
-pub extern "C" fn zalghimo_le_write(
+pub fn zalghimo_le_write(
     output: &mut [u8],
     place: usize,
     rf_channel: u8,

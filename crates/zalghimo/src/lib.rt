@@ -1,6 +1,6 @@
-// The C boundary: each function asks nothing of its caller beyond valid pointers and lengths, and returns a struct of
-// 64-bit numbers by value. include/zalghimo.h declares them for C. Each exports a function of the crate of its family,
-// with the same parameters and promise, so that a wrong call is tried there and not among all of them.
+// What C calls, for crates of Rattle: each function asks nothing of its caller, and returns a struct of 64-bit numbers by
+// value. Each calls a function of the crate of its family, with the same parameters and promise, so that a wrong call is
+// tried there and not among all of them. The crate zalghimo_c exports each to C under its name.
 ghost use Rattle.std.specs.Prelude.{◌≡◌, length};
 ghost use Rattle.btsnoop_rules.specs.Header.{header_at};
 ghost use Rattle.btsnoop_rules.specs.Record.{record_at};
@@ -30,40 +30,35 @@ use boundary_time::{Time, TimeField};
 use boundary_write::Written;
 
 // Reads the file header of a BTSnoop file.
-#[unsafe(no_mangle)]
-pub extern "C" fn zalghimo_btsnoop_header(input: &[u8]) -> Header
+pub fn zalghimo_btsnoop_header(input: &[u8]) -> Header
     ensures { result ≡ header_row (header_at input.now) }
 {
     zalghimo_btsnoop::header(input)
 }
 
 // Checks a whole BTSnoop file.
-#[unsafe(no_mangle)]
-pub extern "C" fn zalghimo_btsnoop_check(input: &[u8]) -> File
+pub fn zalghimo_btsnoop_check(input: &[u8]) -> File
     ensures { result ≡ file_row (file_at input.now) }
 {
     zalghimo_btsnoop::check(input)
 }
 
 // Reads the record at a place.
-#[unsafe(no_mangle)]
-pub extern "C" fn zalghimo_btsnoop_record(input: &[u8], place: usize) -> Record
+pub fn zalghimo_btsnoop_record(input: &[u8], place: usize) -> Record
     ensures { result ≡ record_row (record_at input.now place) }
 {
     zalghimo_btsnoop::record(input, place)
 }
 
 // Surveys the records from a place on, passing at most a number of them.
-#[unsafe(no_mangle)]
-pub extern "C" fn zalghimo_btsnoop_survey(input: &[u8], place: usize, number: usize) -> Survey
+pub fn zalghimo_btsnoop_survey(input: &[u8], place: usize, number: usize) -> Survey
     ensures { result ≡ survey_row (survey_at input.now place number) }
 {
     zalghimo_btsnoop::survey(input, place, number)
 }
 
 // Finds the earlier of two captures' records, each at a place.
-#[unsafe(no_mangle)]
-pub extern "C" fn zalghimo_btsnoop_earlier(
+pub fn zalghimo_btsnoop_earlier(
     first: &[u8],
     first_at: usize,
     second: &[u8],
@@ -75,32 +70,28 @@ pub extern "C" fn zalghimo_btsnoop_earlier(
 }
 
 // Reads a record's time field as Unix seconds and microseconds.
-#[unsafe(no_mangle)]
-pub extern "C" fn zalghimo_btsnoop_read_time(field: i64) -> Time
+pub fn zalghimo_btsnoop_read_time(field: i64) -> Time
     ensures { result ≡ time_row (reading field) }
 {
     zalghimo_time::read_time(field)
 }
 
 // Writes Unix seconds and microseconds as a record's time field.
-#[unsafe(no_mangle)]
-pub extern "C" fn zalghimo_btsnoop_write_time(seconds: i64, microseconds: u32) -> TimeField
+pub fn zalghimo_btsnoop_write_time(seconds: i64, microseconds: u32) -> TimeField
     ensures { result ≡ time_field_row (writing seconds microseconds) }
 {
     zalghimo_time::write_time(seconds, microseconds)
 }
 
 // The drops between two records.
-#[unsafe(no_mangle)]
-pub extern "C" fn zalghimo_btsnoop_drops(earlier: u32, later: u32) -> u32
+pub fn zalghimo_btsnoop_drops(earlier: u32, later: u32) -> u32
     ensures { result ≡ drops_between earlier later }
 {
     zalghimo_time::drops(earlier, later)
 }
 
 // Writes a BTSnoop file header into an output at a place.
-#[unsafe(no_mangle)]
-pub extern "C" fn zalghimo_btsnoop_write_header(
+pub fn zalghimo_btsnoop_write_header(
     output: &mut [u8],
     place: usize,
     datalink: u32,
@@ -112,8 +103,7 @@ pub extern "C" fn zalghimo_btsnoop_write_header(
 }
 
 // Writes a BTSnoop record into an output at a place.
-#[unsafe(no_mangle)]
-pub extern "C" fn zalghimo_btsnoop_write_record(
+pub fn zalghimo_btsnoop_write_record(
     output: &mut [u8],
     place: usize,
     original: u32,
@@ -129,32 +119,28 @@ pub extern "C" fn zalghimo_btsnoop_write_record(
 }
 
 // Reads a radiotap header in an edition.
-#[unsafe(no_mangle)]
-pub extern "C" fn zalghimo_radiotap_read(input: &[u8], edition: u32) -> Radiotap
+pub fn zalghimo_radiotap_read(input: &[u8], edition: u32) -> Radiotap
     ensures { result ≡ radiotap_row (summary input.now (reading_in our_rules edition input.now)) }
 {
     zalghimo_radiotap::read(input, edition)
 }
 
 // Reads a presence word of a radiotap header by its number.
-#[unsafe(no_mangle)]
-pub extern "C" fn zalghimo_radiotap_word(input: &[u8], number: usize) -> Word
+pub fn zalghimo_radiotap_word(input: &[u8], number: usize) -> Word
     ensures { result ≡ word_row (word_number input.now number) }
 {
     zalghimo_radiotap::word(input, number)
 }
 
 // Reads a field of a radiotap header in an edition by its number.
-#[unsafe(no_mangle)]
-pub extern "C" fn zalghimo_radiotap_field(input: &[u8], edition: u32, number: usize) -> Field
+pub fn zalghimo_radiotap_field(input: &[u8], edition: u32, number: usize) -> Field
     ensures { result ≡ field_row (field_of (reading_in our_rules edition input.now) number) }
 {
     zalghimo_radiotap::field(input, edition, number)
 }
 
 // Reads a radiotap header in an edition and puts its fields into a list of numbers, four a field.
-#[unsafe(no_mangle)]
-pub extern "C" fn zalghimo_radiotap_fields(
+pub fn zalghimo_radiotap_fields(
     input: &[u8],
     edition: u32,
     fields: &mut [u64],
@@ -166,8 +152,7 @@ pub extern "C" fn zalghimo_radiotap_fields(
 }
 
 // Writes a radiotap header with one presence word into an output at a place.
-#[unsafe(no_mangle)]
-pub extern "C" fn zalghimo_radiotap_write(
+pub fn zalghimo_radiotap_write(
     output: &mut [u8],
     place: usize,
     edition: u32,

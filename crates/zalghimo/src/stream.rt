@@ -7,24 +7,21 @@ ghost use Rattle.stream_state.specs.Rows.{TakenAs};
 use stream_state::{Stream, Taken};
 
 // The state before the first octet of a stream.
-#[unsafe(no_mangle)]
-pub extern "C" fn zalghimo_stream_fresh() -> Stream
+pub fn zalghimo_stream_fresh() -> Stream
     ensures { state_says result ≡ fresh }
 {
     stream_state::fresh()
 }
 
 // Takes octets of a chunk.
-#[unsafe(no_mangle)]
-pub extern "C" fn zalghimo_stream_take(state: Stream, chunk: &[u8]) -> Taken
+pub fn zalghimo_stream_take(state: Stream, chunk: &[u8]) -> Taken
     ensures { TakenAs (take_at (state_says state) chunk.now) result }
 {
     btsnoop_stream::take(state, chunk)
 }
 
 // The sender says that the stream has ended.
-#[unsafe(no_mangle)]
-pub extern "C" fn zalghimo_stream_end(state: Stream) -> Taken
+pub fn zalghimo_stream_end(state: Stream) -> Taken
     ensures { TakenAs (end_at (state_says state)) result }
 {
     btsnoop_stream::ended(state)

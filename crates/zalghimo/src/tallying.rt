@@ -6,8 +6,7 @@ ghost use Rattle.boundary_tally.specs.Rows.{tally_of, entry_of, done_row, tally_
 use boundary_tally::Done;
 
 // Adds a record to a lent tally of nine numbers, or refuses and leaves the tally as found.
-#[unsafe(no_mangle)]
-pub extern "C" fn zalghimo_btsnoop_tally(
+pub fn zalghimo_btsnoop_tally(
     numbers: &mut [u64; 9],
     original: u32,
     included: u32,
