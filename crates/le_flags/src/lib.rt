@@ -1,4 +1,6 @@
 // What the flags of an LE pseudo-header tell. Every one of the 16 bits may be set; the flags themselves stay whole in the values.
+#![tactic(auto)]
+
 ghost use Rattle.std.specs.Prelude.{◌≡◌};
 ghost use Rattle.le_rules.specs.Flags.{pdu_type, phy as phy_of, dependent_bits, dependent as dependent_of, told_by};
 ghost use Rattle.le_flags.specs.Says.{pdu_type_number, phy_number, auxiliary_number, dependent_says, knowledge_says, told_says};

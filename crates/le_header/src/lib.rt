@@ -1,4 +1,6 @@
 // Reading the LE pseudo-header: ten octets and a packet.
+#![tactic(auto)]
+
 ghost use Rattle.std.specs.Prelude.{◌≡◌};
 ghost use Rattle.le_rules.specs.Reading.{within as within_range, values_in, range_of, judged as judged_of, reading_of, packet_in};
 ghost use Rattle.le_header.specs.Says.{le_says};

@@ -1,4 +1,6 @@
 // Judging the values of an LE pseudo-header, for the reader and the writer.
+#![tactic(auto)]
+
 ghost use Rattle.std.specs.Prelude.{◌≡◌};
 ghost use Rattle.le_rules.specs.Reading.{fault_number, fault_place, range_of, least_packet};
 ghost use Rattle.le_ranges.specs.Says.{fault_says, range_says};

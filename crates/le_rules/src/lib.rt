@@ -1,5 +1,6 @@
 // Document 01's rules for the LE pseudo-header: the definitions that the promises of the reader and the writer cite, and
 // the claims that follow from them (specs/).
+#![tactic(auto)]
 
 // The length of the pseudo-header, which is the place of the packet.
 pub const HEADER_LENGTH: usize = 10;

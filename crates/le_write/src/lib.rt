@@ -1,4 +1,6 @@
 // Writing the LE pseudo-header and its packet, into an output at a place.
+#![tactic(auto)]
+
 ghost use Rattle.std.specs.Prelude.{◌≡◌, [], ◌∷◌, ◌+◌, ◌≤◌, length};
 ghost use Rattle.octets.specs.Parts.{splice};
 ghost use Rattle.octets.specs.Signed.{unsigned};
