@@ -1,5 +1,7 @@
 // The structs of the C boundary for BTSnoop's readers, and each answer as one of them; a record's is in `boundary_record`.
 // Kind 0 is a refusal, 1 values, 2 the end, 3 "more".
+#![tactic(auto)]
+
 ghost use Rattle.std.specs.Prelude.{◌≡◌};
 ghost use Rattle.btsnoop_header.specs.Says.{header_says};
 ghost use Rattle.btsnoop_survey.specs.Says.{survey_says, file_says};

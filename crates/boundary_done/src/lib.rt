@@ -1,4 +1,6 @@
 // The struct of the C boundary for an answer that has no values of its own. Kind 0 is a refusal, 1 done.
+#![tactic(auto)]
+
 ghost use Rattle.std.specs.Prelude.{◌≡◌};
 ghost use Rattle.boundary_done.specs.Rows.{refused_row, filled_row};
 

@@ -1,5 +1,7 @@
 // Reading one BTSnoop record at a place straight into its struct of the C boundary: the answer is written once. Kind 0 is
 // a refusal, 1 values, 2 the end.
+#![tactic(auto)]
+
 ghost use Rattle.std.specs.Prelude.{◌≡◌, ◌+◌, ◌≤◌, length};
 ghost use Rattle.refusals.specs.Refusals.{refused as Refused, given};
 ghost use Rattle.btsnoop_rules.specs.Record.{record_length, numbers_at, end as End, whole as Whole, record_judged, record_at};

@@ -1,4 +1,6 @@
 // The struct of the C boundary for every writer, and a writer's answer as one. Kind 0 is a refusal, 1 values.
+#![tactic(auto)]
+
 ghost use Rattle.std.specs.Prelude.{◌≡◌};
 ghost use Rattle.refusals.specs.Says.{write_says};
 ghost use Rattle.boundary_write.specs.Rows.{written_row};
