@@ -1,4 +1,6 @@
 // The struct of the C boundary for the LE pseudo-header, and the reader's answer as one. Kind 0 is a refusal, 1 values.
+#![tactic(auto)]
+
 ghost use Rattle.std.specs.Prelude.{◌≡◌, ◌≤◌};
 ghost use Rattle.refusals.specs.Refusals.{given};
 ghost use Rattle.le_flags.specs.Says.{pdu_type_number, phy_number, auxiliary_number, dependent_says, knowledge_says, told_says};

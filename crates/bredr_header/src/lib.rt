@@ -1,4 +1,6 @@
 // Reading the BR/EDR pseudo-header: its 22 octets, and what its flags tell.
+#![tactic(auto)]
+
 ghost use Rattle.std.specs.Prelude.{◌≡◌};
 ghost use Rattle.octets.specs.Numbers.{little, number_at};
 ghost use Rattle.bredr_rules.specs.Flags.{known_by};

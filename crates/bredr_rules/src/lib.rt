@@ -1,5 +1,6 @@
 // Request W-206's rules for the BR/EDR pseudo-header: the definitions that the promises of the reader, the writer and the
 // survey cite, and the claims that follow from them (specs/).
+#![tactic(auto)]
 
 // The length of the pseudo-header.
 pub const HEADER_LENGTH: usize = 22;

@@ -1,4 +1,6 @@
 // The time of a record: from the signed 64-bit field to seconds and microseconds, and back.
+#![tactic(auto)]
+
 ghost use Rattle.std.specs.Prelude.{◌<◌, ◌≡◌, false};
 ghost use Rattle.refusals.specs.Refusals.{given};
 ghost use Rattle.capture_time.specs.Time.{per_second, time_of, below_range, above_range, reading, field_of, unwritable, writing};

@@ -1,5 +1,7 @@
 // What the pseudo-headers share: a value that is known or not by its flag, and four of them as the bits of one number.
 // In specs/ also fields one behind the other at any widths, and what an accepted write leaves as it was.
+#![tactic(auto)]
+
 ghost use Rattle.std.specs.Prelude.{◌≡◌, ◌≤◌};
 ghost use Rattle.pseudo_header.specs.Flags.{bit_of, known_bits};
 ghost use Rattle.pseudo_header.specs.Says.{knowledge_says};
