@@ -1,4 +1,6 @@
 // The structs of the C boundary for the time functions, and each answer as one. Kind 0 is a refusal, 1 values.
+#![tactic(auto)]
+
 ghost use Rattle.std.specs.Prelude.{◌≡◌};
 ghost use Rattle.capture_time.specs.Answers.{time_says, field_says};
 ghost use Rattle.boundary_time.specs.Rows.{time_row, time_field_row};

@@ -1,4 +1,6 @@
 // The running tally over records: an update by value, and the tally lent to it and changed in place.
+#![tactic(auto)]
+
 ghost use Rattle.std.specs.Prelude.{◌≡◌, true, ◌+◌, ◌^◌, ltb, eqb};
 ghost use Rattle.tally_rules.specs.Tally.{one_if, truncated as is_truncated, lost_by, added as with_record, adds_up, fits as sums_fit, updating, after_update};
 ghost use Rattle.tally.specs.Says.{answer_says, UpdatedSays};

@@ -10,7 +10,6 @@ use borrow.Author.Tests.{ltb-false, le-ltb}
 use Rattle.refusals.specs.Refusals.{refused, given}
 use Rattle.refusals.proofs.Orders.{exactly, neither, not_refused, other-number, eqb_fails}
 use Rattle.tally_rules.specs.declared.Tally.{Tally}
-use Rattle.tally_rules.specs.declared.Entry.{Entry}
 use Rattle.tally_rules.specs.Tally.{sum_broken, sum_past, added, adds_up, fits, updating}
 use Rattle.tally_rules.specs.Orders.{SumBreaks, SumPasses, UpdateExactly}
 

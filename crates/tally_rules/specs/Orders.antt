@@ -1,7 +1,7 @@
 -- Document 01, "Refusal numbers", and request W-204, for the tally: 23 and 16, in this order, are given exactly when their
 -- conditions hold. Proof: proofs/Orders.antt.
-use Rattle.std.specs.Prelude.{ℕ, ◌+◌, ◌^◌, ◌≤◌, ◌≡◌, ◌⊎◌}
-use Rattle.refusals.specs.Refusals.{Answer, refused, given}
+use Rattle.std.specs.Prelude.{◌+◌, ◌^◌, ◌≤◌, ◌≡◌, ◌⊎◌}
+use Rattle.refusals.specs.Refusals.{refused, given}
 use Rattle.refusals.specs.Orders.{Exactly, Otherwise}
 use Rattle.tally_rules.specs.declared.Tally.{Tally}
 use Rattle.tally_rules.specs.declared.Entry.{Entry}

@@ -1,5 +1,6 @@
 // Document 01's rules for the running tally, with the counts and the sums of request W-204: the definitions that the
 // promises of `tally` cite, and the claims that follow from them (specs/).
+#![tactic(auto)]
 
 // The tally (document 01's term): records, received, commands, octets included, lost, the last drop number, which is of
 // no account while records is 0, and by request W-204 truncated, sent and data.

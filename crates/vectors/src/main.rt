@@ -11,12 +11,11 @@ mod answers_stream;
 mod answers_tally;
 mod question_lines;
 
-use libc::STDOUT_FILENO;
-use question_lines::QUESTION_LENGTH;
+use question_lines::{QUESTION_LENGTH, STANDARD_INPUT, STANDARD_OUTPUT};
 
 fn main() {
     let mut space = question_lines::room_for_all();
-    let n = io::read_full(libc::STDIN_FILENO, &mut space);
+    let n = io::read_full(STANDARD_INPUT, &mut space);
     run(&space[..n]);
 }
 
@@ -40,7 +39,7 @@ fn run(input: &[u8]) {
 // Answers one question on a line.
 fn answer(q: &[u8]) {
     let op = octets::octet(q, 0, 0);
-    io::print_decimal(STDOUT_FILENO, op as u64);
+    io::print_decimal(STANDARD_OUTPUT, op as u64);
     let first = number_at::be32(q, 41) as usize;
     let second = number_at::be32(q, 45) as usize;
     ask(
@@ -49,7 +48,7 @@ fn answer(q: &[u8]) {
         octets::part(q, QUESTION_LENGTH, first),
         octets::part(q, QUESTION_LENGTH + first, second),
     );
-    io::write_all(STDOUT_FILENO, b"\n");
+    io::write_all(STANDARD_OUTPUT, b"\n");
 }
 
 // Asks one kind after the other, until the question is one of its own.

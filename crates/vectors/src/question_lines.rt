@@ -5,7 +5,9 @@ ghost use Rattle.io.specs.Counts.{IsPrefixLen};
 ghost use Rattle.octets.specs.Signed.{signed as signed_of};
 ghost use Rattle.vectors.specs.Questions.{question_length, is_among, room_of};
 
-use libc::STDOUT_FILENO;
+// Standard input and standard output, by their numbers.
+pub const STANDARD_INPUT: i32 = 0;
+pub const STANDARD_OUTPUT: i32 = 1;
 
 // The length of a question before its octets: its number, five parameters and two lengths.
 pub const QUESTION_LENGTH: usize = 49;
@@ -49,22 +51,22 @@ pub fn numbers(ns: &[u64]) -> usize
 }
 
 fn number(n: u64) {
-    io::write_all(STDOUT_FILENO, b" ");
-    io::print_decimal(STDOUT_FILENO, n);
+    io::write_all(STANDARD_OUTPUT, b" ");
+    io::print_decimal(STANDARD_OUTPUT, n);
 }
 
 // Writes octets in hexadecimal after a space, a dash where there are none, and tells how many.
 pub fn octets(s: &[u8]) -> usize
     ensures { result ≡ length s.now }
 {
-    io::write_all(STDOUT_FILENO, b" ");
+    io::write_all(STANDARD_OUTPUT, b" ");
     if s.len() == 0 {
-        io::write_all(STDOUT_FILENO, b"-");
+        io::write_all(STANDARD_OUTPUT, b"-");
         return 0;
     }
     let mut i = 0;
     while i < s.len() {
-        io::print_hex(STDOUT_FILENO, wide(s[i]), 2);
+        io::print_hex(STANDARD_OUTPUT, wide(s[i]), 2);
         i += 1;
     }
     i

@@ -1,4 +1,6 @@
 // The functions that read a BTSnoop file, as the C boundary has them.
+#![tactic(auto)]
+
 ghost use Rattle.std.specs.Prelude.{◌≡◌};
 ghost use Rattle.btsnoop_rules.specs.Header.{header_at};
 ghost use Rattle.btsnoop_rules.specs.Record.{record_at};

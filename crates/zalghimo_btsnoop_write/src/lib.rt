@@ -1,4 +1,6 @@
 // The functions that write a BTSnoop file, as the C boundary has them.
+#![tactic(auto)]
+
 ghost use Rattle.std.specs.Prelude.{◌≡◌, length};
 ghost use Rattle.btsnoop_rules.specs.Writing.{header_writing, header_written, record_writing, record_written};
 ghost use Rattle.boundary_write.specs.Rows.{written_row};

@@ -1,4 +1,6 @@
 // The functions of the LE pseudo-header, as the C boundary has them.
+#![tactic(auto)]
+
 ghost use Rattle.std.specs.Prelude.{◌≡◌, length};
 ghost use Rattle.le_rules.specs.Reading.{reading_of};
 ghost use Rattle.le_rules.specs.Writing.{writing, written};

@@ -1,4 +1,6 @@
 // The functions of the time field and of the drops, as the C boundary has them.
+#![tactic(auto)]
+
 ghost use Rattle.std.specs.Prelude.{◌≡◌};
 ghost use Rattle.btsnoop_rules.specs.Drops.{drops_between};
 ghost use Rattle.capture_time.specs.Time.{reading, writing};
