@@ -16,7 +16,7 @@ use Rattle.octets.specs.Parts.{part as part_of}
 use Rattle.btsnoop_rules.specs.declared.Numbers.{Numbers}
 use Rattle.btsnoop_rules.specs.Header.{header_length, header_judged}
 use Rattle.btsnoop_rules.specs.Record.{record_length, numbers_at}
-use Rattle.stream_rules.specs.Stream.{most_octets, long_stream, nothing, packet_octets, Stream, in_header, in_record, in_packet, refused_at, ended_at, Outcome, outcome, refuses, ends, handed, after, header_taken, take_header, record_taken, take_record, take_packet, within, take_at}
+use Rattle.stream_rules.specs.Stream.{most_octets, long_stream, nothing, packet_octets, in_header, in_record, in_packet, refused_at, ended_at, Outcome, outcome, refuses, ends, handed, after, header_taken, take_header, record_taken, take_record, take_packet, within, take_at}
 use Rattle.stream_rules.specs.Calls.{PartsOfChunk}
 
 -- what is handed out are the last octets taken
