@@ -1,5 +1,7 @@
 // Captures as they arrive: what is kept between calls and what a call answers, as the C boundary has them, and the steps
 // that the phases share.
+#![tactic(auto)]
+
 ghost use Rattle.std.specs.Prelude.{◌≡◌, [], ◌+◌, ◌-◌, length, take as front, leb};
 ghost use Rattle.octets.specs.Parts.{part as part_of, put as put_at};
 ghost use Rattle.stream_rules.specs.Stream.{most_octets, nothing, datalink, in_record, outcome, refuses, ends, fresh as fresh_stream};
