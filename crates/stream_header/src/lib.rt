@@ -1,4 +1,6 @@
 // Captures as they arrive: the file header.
+#![tactic(auto)]
+
 ghost use Rattle.std.specs.Prelude.{◌+◌, ◌≤◌, length, take as front};
 ghost use Rattle.btsnoop_rules.specs.Header.{header_length, header_judged};
 ghost use Rattle.btsnoop_rules.specs.Record.{record_length};
