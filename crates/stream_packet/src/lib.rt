@@ -1,4 +1,6 @@
 // Captures as they arrive: a record's packet, handed out as parts of the chunks.
+#![tactic(auto)]
+
 ghost use Rattle.std.specs.Prelude.{◌≡◌, List, [], ℕ, ◌+◌, ◌-◌, ◌^◌, ◌≤◌, ◌<◌, length, drop};
 ghost use Rattle.btsnoop_rules.specs.Record.{record_length, numbers_at};
 ghost use Rattle.stream_rules.specs.Stream.{most_octets, finished as finished_record, in_record, in_packet, outcome, handed, after, take_packet, within as within_longest};
