@@ -1,4 +1,6 @@
 // Captures as they arrive: a record's header, and its packet behind it.
+#![tactic(auto)]
+
 ghost use Rattle.std.specs.Prelude.{◌≡◌, true, cond, ◌++◌, ◌+◌, ◌-◌, ◌≤◌, leb, eqb, ltb, length, take as front};
 ghost use Rattle.refusals.specs.Refusals.{included_length};
 ghost use Rattle.btsnoop_rules.specs.Record.{record_length, numbers_at};
