@@ -1,4 +1,6 @@
 // Captures as they arrive: a record that lies whole in a chunk, as most do, read from the chunk itself.
+#![tactic(auto)]
+
 ghost use Rattle.std.specs.Prelude.{◌≡◌, true, cond, [], ◌+◌, ◌≤◌, eqb, length, take as front};
 ghost use Rattle.btsnoop_rules.specs.Record.{record_length, numbers_at};
 ghost use Rattle.stream_rules.specs.Stream.{most_octets, in_record, in_packet, take_at};

@@ -1,6 +1,5 @@
 -- `stream_whole::at_once` meets its contract: the finished record.
--- Assumes nothing.
-use Prim.Native.Nat.{ℕ, ◌+◌, ◌≤◌}
+use Prim.Native.Nat.{◌+◌, ◌≤◌}
 use mathlib.Core.Path.{◌≡◌, ap, ◌∙◌}
 use mathlib.Core.List.{[]}
 use native.Mathlib.Omega.{arith}
@@ -12,32 +11,15 @@ use Rattle.stream_rules.specs.Stream.{finished, in_record, outcome}
 use Rattle.stream_state.proofs.Rows.{answers}
 use Rattle.stream_packet.proofs.Handings.{finished_as}
 use Rattle.stream_record.proofs.Begins.{whole_record}
-use borrow.Author.Rules.{rules}
-use Rattle.stream_whole.proofs.at_once.Statement.{statement}
-use Rattle.stream_whole.proofs.at_once.Tie as tie
+use Rattle.stream_whole.proofs.at_once.Goals as goal
 
-numbers-requires : tie.Need-numbers-requires
-numbers-requires c κs = search rules
-
-cast-size : tie.Need-overflow-cast-size
-cast-size c = search rules
-
-add-taken : tie.Need-overflow-add-taken
-add-taken c = search rules
-
-add-finished : tie.Need-overflow-add-finished
-add-finished c = search rules
-
-finished-requires : tie.Need-finished-requires
-finished-requires c κs = search rules
-
-returns : tie.Need-returns
+pub returns : goal.returns
 returns c =
-    let a = c.before.before.before.before.args in
+    let a = c.args in
     let s = a.chunk.now in
-    let pre = c.before.before.before.before.requires in
-    let n = c.before.before.numbers.result in
-    let same : n ≡ numbers_at s 0 = c.before.before.numbers.ensures in
+    let pre = c.requires in
+    let n = c.numbers-numbers.result in
+    let same : n ≡ numbers_at s 0 = c.numbers-numbers.ensures in
     let size = ap (λ (m : Numbers). m.included) same in
     let rest = drop record_length s in
     let enough : n.included ≤ length (drop record_length s) = omega (arith, size, pre.1, length-drop record_length s) in
@@ -45,8 +27,3 @@ returns c =
     (finished_as record_length 0 n.included a.octets _ n c.finished.result c.finished.ensures (take n.included rest) (length-take-le n.included rest enough))
     (ap (λ (m : Numbers). outcome (record_length + m.included) (finished a.octets m 0 (take m.included rest)) (in_record (a.octets + (record_length + m.included)) [])) same
     ∙ whole_record a.octets s pre.0 pre.1 pre.2)
-
-pub at_once_spec : {M : Type 1} → statement M
-at_once_spec =
-    tie.close
-    (tie.spec numbers-requires cast-size add-taken add-finished finished-requires returns)
