@@ -1,4 +1,6 @@
 // Reading BTSnoop as it arrives: chunk after chunk, with at most the 24 octets of one header kept between them.
+#![tactic(auto)]
+
 ghost use Rattle.std.specs.Prelude.{cond, ◌-◌, ◌+◌, ◌%◌, ◌^◌, eqb};
 ghost use Rattle.refusals.specs.Refusals.{short_record, short_packet};
 ghost use Rattle.btsnoop_rules.specs.Record.{record_length};
