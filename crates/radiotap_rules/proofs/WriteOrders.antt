@@ -13,7 +13,7 @@ use native.Mathlib.Decide.{ℕ_discrete}
 use lib.ListN.{length}
 use borrow.Author.Tests.{leb-true, leb-false, eqb-true, eqb-false, le-leb, lt-leb, eq-eqb, ne_eqb}
 use Rattle.refusals.specs.Refusals.{Answer, refused, given}
-use Rattle.radiotap_rules.specs.Rules.{Rules, knows, edition_taken, served}
+use Rattle.radiotap_rules.specs.Rules.{Rules, knows, edition_taken}
 use Rattle.radiotap_rules.specs.Reading.{bit_set, word_bits, bit_at, Meaning, nothing, unknown_here, field, meaning, Reading, refused_before, reading, field_of}
 use Rattle.radiotap_rules.specs.Answers.{summary, octets_of_field, frame_in, dbm_of, listed_into}
 use Rattle.radiotap_rules.specs.Writing.{is_field, writable_at, writable_from, writable, writing, written}

@@ -1,5 +1,6 @@
 // Document 01's rules for radiotap, over any table of fields: the definitions that the promises cite, and the claims
 // that follow from them (specs/), demand 3 among them.
+#![tactic(auto)]
 
 // What stands before the fields of a header: its length, how many presence words it has, and the first of them.
 #[derive(Clone, Copy)]
