@@ -1,5 +1,7 @@
 // Radiotap's table of fields, a row for each presence bit, and what readers and writers ask of it: which edition is
 // taken, and where the field of a bit lies.
+#![tactic(auto)]
+
 ghost use Rattle.std.specs.Prelude.{◌≡◌, ◌+◌, ◌%◌, map};
 ghost use Rattle.radiotap_rules.specs.Rules.{edition_taken, served as is_served};
 ghost use Rattle.radiotap_rules.specs.Table.{our_rules};
