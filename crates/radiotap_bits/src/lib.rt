@@ -1,5 +1,7 @@
 // The bits of a presence word: the next set one, those that an edition knows, what the word carries, and whether the next
 // word is continued.
+#![tactic(auto)]
+
 ghost use Rattle.std.specs.Prelude.{◌≡◌, ◌&&◌, leb, if◌then◌else◌, nat_le};
 ghost use Rattle.radiotap_rules.specs.Reading.{bit_set};
 ghost use Rattle.radiotap_bits.specs.Bits.{NextSet, KnownBits, Carries, Continues};
