@@ -1,4 +1,6 @@
 // The fixed header of radiotap: version, pad, length and the first presence word. No edition is asked.
+#![tactic(auto)]
+
 ghost use Rattle.std.specs.Prelude.{◌≡◌};
 ghost use Rattle.radiotap_rules.specs.Reading.{fixed_header};
 ghost use Rattle.radiotap_fixed.specs.Says.{fixed_says};
