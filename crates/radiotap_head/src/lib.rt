@@ -1,4 +1,6 @@
 // What stands before the fields of a radiotap header: the fixed header and the presence words. No edition is asked.
+#![tactic(auto)]
+
 ghost use Rattle.std.specs.Prelude.{◌≡◌, cond, ◌+◌, ◌*◌, ltb};
 ghost use Rattle.refusals.specs.Refusals.{refused as Refused, given};
 ghost use Rattle.octets.specs.Numbers.{little, number_at};
