@@ -1,4 +1,6 @@
 // The step of a walk over a radiotap header's fields: from a cursor to the next field.
+#![tactic(auto)]
+
 ghost use Rattle.std.specs.Prelude.{◌≡◌, ◌<◌};
 ghost use Rattle.radiotap_rules.specs.Table.{our_rules};
 ghost use Rattle.radiotap_rules.specs.Steps.{step_of};
