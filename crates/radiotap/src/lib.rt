@@ -1,5 +1,7 @@
 // Reading a radiotap header in an edition: the header as a whole, and the frame behind it. A header is judged whole first:
 // one refused at a field shows none.
+#![tactic(auto)]
+
 ghost use Rattle.std.specs.Prelude.{◌≡◌, get_or};
 ghost use Rattle.refusals.specs.Refusals.{given};
 ghost use Rattle.radiotap_rules.specs.Table.{our_rules};
