@@ -1,4 +1,6 @@
 // Numbers as decimal text, written into an output at a place. Without room for all of a text nothing is written.
+#![tactic(auto)]
+
 ghost use Rattle.std.specs.Prelude.{◌≡◌, ◌≤◌, ◌<◌, ◌^◌, length, negsuc};
 ghost use Rattle.octets.specs.Parts.{put as put_at};
 ghost use Rattle.text.specs.Decimal.{decimal, signed_decimal};
