@@ -1,5 +1,7 @@
 // Words and fields of lines of text, written into an output at a place. Each function tells the place behind what it
 // wrote, or the highest place where that would pass it, so that any place may be given.
+#![tactic(auto)]
+
 ghost use Rattle.std.specs.Prelude.{◌≡◌, [], ◌∷◌, ◌+◌, ◌≤◌, length};
 ghost use Rattle.text.specs.Decimal.{decimal, signed_decimal};
 ghost use Rattle.listing_rules.specs.Lines.{tab, fields_of};
