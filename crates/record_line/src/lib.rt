@@ -1,5 +1,7 @@
 // The line of a record in a listing, written into an output at a place. Each function tells the place behind what it
 // wrote, or the highest place where that would pass it, so that any place may be given.
+#![tactic(auto)]
+
 ghost use Rattle.std.specs.Prelude.{◌∷◌, ◌++◌, ◌+◌, ◌≤◌};
 ghost use Rattle.capture_time.specs.Answers.{time_says};
 ghost use Rattle.text.specs.Decimal.{decimal};
