@@ -1,5 +1,7 @@
 // The lines of a listing but those of records, written into an output at a place. Each function tells the place behind
 // what it wrote, or the highest place where that would pass it, so that any place may be given.
+#![tactic(auto)]
+
 ghost use Rattle.std.specs.Prelude.{◌+◌, ◌≤◌};
 ghost use Rattle.listing_rules.specs.Lines.{file_line, stop_line, end_line};
 ghost use Rattle.text_lines.specs.Wrote.{Wrote};
