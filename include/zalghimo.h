@@ -1,4 +1,4 @@
-/* The C boundary of the capture reader: libzalghimo.a, made by `rt staticlib zalghimo`, for x86-64 Linux.
+/* The C boundary of the capture reader: libzalghimo.a, made by `bin/static-library`, for x86-64 Linux.
  *
  * Each function answers for every input and asks nothing of its caller beyond this: a pointer and its length are those
  * of a live buffer, and a buffer that is written shares nothing with another that is lent to the same call. No pointer

@@ -14,11 +14,11 @@ fn main() {
     let root = root.canonicalize().expect("the repository's root");
     let directory = root.join("target/staticlib");
     let archive = directory.join("libzalghimo.a");
-    let (list, crates) = (root.join("crates.txt"), root.join("crates"));
-    for path in [&archive, &list, &crates] {
+    let sources = sources(root.join("crates.txt"), &root.join("crates"));
+    for path in [&archive].into_iter().chain(&sources) {
         println!("cargo:rerun-if-changed={}", path.display());
     }
-    if let Some(reason) = to_be_built(&archive, &sources(list, &crates)) {
+    if let Some(reason) = to_be_built(&archive, &sources) {
         build(&root, &reason);
     }
     println!("cargo:rustc-link-search=native={}", directory.display());
@@ -36,12 +36,14 @@ fn judge_target() {
     }
 }
 
-/// What the library is built from: the list of crates, and of each crate the directories that are proved.
+/// What the library is built from: the list of crates, and of each crate the directories that are proved. What `rt` keeps
+/// beside them, in a crate's `out`, is no part of that.
 fn sources(list: PathBuf, crates: &Path) -> Vec<PathBuf> {
     let mut directories = entries(crates);
     directories.sort();
     let proved = |directory: PathBuf| ["src", "specs", "proofs"].map(|part| directory.join(part));
     let proved = directories.into_iter().flat_map(proved);
+    let proved = proved.filter(|directory| directory.is_dir());
     [list].into_iter().chain(proved).collect()
 }
 
@@ -73,21 +75,20 @@ fn entries(directory: &Path) -> Vec<PathBuf> {
     entries.map(|entry| entry.path()).collect()
 }
 
-/// Has the library proved and built. What `rt` prints is shown where it fails.
+/// Has the library proved and built. What is printed is shown where it fails.
 fn build(root: &Path, reason: &str) {
-    let mut command = Command::new("rt");
-    command.args(["staticlib", "zalghimo"]).current_dir(root);
-    match command.output() {
+    let mut command = Command::new(root.join("bin/static-library"));
+    match command.current_dir(root).output() {
         Ok(output) if output.status.success() => {}
         Ok(output) => {
             eprint!("{}", String::from_utf8_lossy(&output.stdout));
             eprint!("{}", String::from_utf8_lossy(&output.stderr));
             fail(&format!(
-                "{reason}, and `rt staticlib zalghimo`, which builds it, failed"
+                "{reason}, and `bin/static-library`, which builds it, failed"
             ));
         }
         Err(error) => fail(&format!(
-            "{reason}, and `rt staticlib zalghimo`, which builds it, cannot be run: {error}"
+            "{reason}, and `bin/static-library`, which builds it, cannot be run: {error}"
         )),
     }
 }
