@@ -1,5 +1,7 @@
 // The struct of the C boundary for the tally, and the nine numbers that a tally is lent as. Kind 0 is a refusal, 1 an
 // update done.
+#![tactic(auto)]
+
 ghost use Rattle.std.specs.Prelude.{◌≡◌};
 ghost use Rattle.tally.specs.Says.{outcome_says};
 ghost use Rattle.boundary_tally.specs.Rows.{tally_of, numbers_of, done_row, tally_after};

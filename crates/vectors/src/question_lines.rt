@@ -7,6 +7,7 @@ ghost use Rattle.vectors.specs.Questions.{question_length, is_among, room_of};
 
 // Standard input and standard output, by their numbers.
 pub const STANDARD_INPUT: i32 = 0;
+
 pub const STANDARD_OUTPUT: i32 = 1;
 
 // The length of a question before its octets: its number, five parameters and two lengths.

@@ -91,11 +91,7 @@ pub fn zalghimo_btsnoop_drops(earlier: u32, later: u32) -> u32
 }
 
 // Writes a BTSnoop file header into an output at a place.
-pub fn zalghimo_btsnoop_write_header(
-    output: &mut [u8],
-    place: usize,
-    datalink: u32,
-) -> Written
+pub fn zalghimo_btsnoop_write_header(output: &mut [u8], place: usize, datalink: u32) -> Written
     ensures value { result ≡ written_row (header_writing (length output.old) place datalink) }
     ensures output_after { output.new ≡ header_written output.old place datalink }
 {
@@ -140,11 +136,7 @@ pub fn zalghimo_radiotap_field(input: &[u8], edition: u32, number: usize) -> Fie
 }
 
 // Reads a radiotap header in an edition and puts its fields into a list of numbers, four a field.
-pub fn zalghimo_radiotap_fields(
-    input: &[u8],
-    edition: u32,
-    fields: &mut [u64],
-) -> Radiotap
+pub fn zalghimo_radiotap_fields(input: &[u8], edition: u32, fields: &mut [u64]) -> Radiotap
     ensures value { result ≡ radiotap_row (summary input.now (reading_in our_rules edition input.now)) }
     ensures fields_after { fields.new ≡ listed_into fields.old (reading_in our_rules edition input.now) }
 {

@@ -32,5 +32,7 @@ pub extern "C" fn zalghimo_le_write(
     ensures value { result ≡ written_row (writing (length output.old) place (le_values rf_channel signal noise offences reference flags) packet.now) }
     ensures output_after { output.new ≡ written output.old place (le_values rf_channel signal noise offences reference flags) packet.now }
 {
-    zalghimo::le::zalghimo_le_write(output, place, rf_channel, signal, noise, offences, reference, flags, packet)
+    zalghimo::le::zalghimo_le_write(
+        output, place, rf_channel, signal, noise, offences, reference, flags, packet,
+    )
 }

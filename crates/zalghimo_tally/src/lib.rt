@@ -1,4 +1,6 @@
 // The function of the tally, as the C boundary has it.
+#![tactic(auto)]
+
 ghost use Rattle.std.specs.Prelude.{◌≡◌};
 ghost use Rattle.tally_rules.specs.Tally.{updating};
 ghost use Rattle.boundary_tally.specs.Rows.{tally_of, entry_of, done_row, tally_after};

@@ -15,7 +15,6 @@ pub returns-then-original_length-packet : goal.returns-then-original_length-pack
 returns-then-original_length-packet c =
     let a = c.args in
     let outcome = record_included a.out.now a.place a.original a.flags a.drops a.time a.packet.now (omega arith) in
-
     record { result_value = c.write_refused.ensures ∙ sym outcome.0; out_after = sym outcome.1 }
 
 pub returns-then-not-has_room : goal.returns-then-not-has_room
@@ -23,7 +22,6 @@ returns-then-not-has_room c =
     let a = c.args in
     let few = leb-false _ _ (sym c.has_room.ensures ∙ c.if-not-has_room.true) in
     let outcome = record_no_room a.out.now a.place a.original a.flags a.drops a.time a.packet.now (omega arith) few in
-
     record { result_value = c.write_refused-then-not-has_room.ensures ∙ sym outcome.0; out_after = sym outcome.1 }
 
 pub returns : goal.returns
@@ -39,5 +37,4 @@ returns c =
     record_parts a.out.now a.place a.original a.flags a.drops time a.packet.now
     room first second third in
     let same : time ≡ a.time = to_z-of_z {w = w64} {z = a.time} c.ranges.time in
-
     record { result_value = sym outcome.0; out_after = rw same at parts ∙ sym outcome.1 }
