@@ -1,4 +1,6 @@
 // Where a reader over a radiotap header stands, what it answers there and where it moves on to.
+#![tactic(auto)]
+
 ghost use Rattle.std.specs.Prelude.{◌≡◌};
 ghost use Rattle.radiotap_rules.specs.Table.{our_rules};
 ghost use Rattle.radiotap_rules.specs.Steps.{head_at, refused_step};
