@@ -1,4 +1,6 @@
 // The listing of a BTSnoop file as lines of text, written into an output at a place.
+#![tactic(auto)]
+
 ghost use Rattle.std.specs.Prelude.{◌≡◌, ◌+◌, ◌≤◌, length};
 ghost use Rattle.refusals.specs.Says.{write_says};
 ghost use Rattle.btsnoop_rules.specs.Header.{header_length};

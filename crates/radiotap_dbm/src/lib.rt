@@ -1,4 +1,6 @@
 // The value of a dBm field of a radiotap header, by the field's number.
+#![tactic(auto)]
+
 ghost use Rattle.std.specs.Prelude.{◌≡◌};
 ghost use Rattle.radiotap_rules.specs.Table.{our_rules};
 ghost use Rattle.radiotap_rules.specs.Reading.{reading, field_of};

@@ -1,5 +1,7 @@
 // A field of a radiotap header by its number, and its octets. A header is judged whole first: one refused at a field shows
 // none.
+#![tactic(auto)]
+
 ghost use Rattle.std.specs.Prelude.{◌≡◌};
 ghost use Rattle.refusals.specs.Refusals.{given};
 ghost use Rattle.radiotap_rules.specs.Table.{our_rules};
