@@ -148,24 +148,6 @@ answer!(
 );
 
 answer!(
-    /// `zalghimo_bredr`
-    Bredr,
-    rf_channel: u64,
-    signal: i64,
-    noise: i64,
-    offences: u64,
-    rate: u64,
-    header_bits: u64,
-    payload_bits: i64,
-    lap: u64,
-    reference_lap: u64,
-    reference_uap: u64,
-    packet_header: u64,
-    flags: u64,
-    known: u64,
-);
-
-answer!(
     /// `zalghimo_radiotap`
     Radiotap,
     fields: u64,

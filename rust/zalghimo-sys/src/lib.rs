@@ -1,6 +1,6 @@
 //! The C boundary of `libzalghimo.a`, as `include/zalghimo.h` has it: the structs that are answered, their kinds, and
-//! the functions, in [`raw`] as they are and in [`btsnoop`], [`stream`], [`le`], [`bredr`] and [`radiotap`] each behind
-//! a safe one.
+//! the functions, in [`raw`] as they are and in [`btsnoop`], [`stream`], [`le`] and [`radiotap`] each behind a safe
+//! one.
 //!
 //! A safe function has its C function's parameters in their order, with a slice for a pointer and its length. What it
 //! answers and refuses stands in the header.
@@ -13,14 +13,13 @@
 //! pointer is never null, and each one that is written is borrowed alone.
 
 mod answers;
-pub mod bredr;
 pub mod btsnoop;
 pub mod le;
 pub mod radiotap;
 pub mod raw;
 pub mod stream;
 
-pub use answers::{Bredr, Done, Earlier, Field, File, Header, Le, Radiotap};
+pub use answers::{Done, Earlier, Field, File, Header, Le, Radiotap};
 pub use answers::{Record, Stream, Survey, Taken, Time, TimeField, Word, Written};
 
 /// What an answer's kind says: refused, with number and place.
@@ -40,9 +39,6 @@ pub const STOPPED: u64 = 4;
 
 /// A stream's file header is whole.
 pub const FILE_HEADER: u64 = 5;
-
-/// The RF channels of BR/EDR, 0 to 78.
-pub const BREDR_CHANNELS: usize = 79;
 
 /// The most fields that a radiotap header can have.
 pub const RADIOTAP_MOST_FIELDS: usize = 232;

@@ -1,6 +1,6 @@
 //! The functions as C has them, in the header's order.
 
-use crate::{Bredr, Done, Earlier, Field, File, Header, Le, Radiotap};
+use crate::{Done, Earlier, Field, File, Header, Le, Radiotap};
 use crate::{Record, Stream, Survey, Taken, Time, TimeField, Word, Written};
 
 extern "C" {
@@ -65,24 +65,6 @@ extern "C" {
         packet: *const u8,
         packet_length: usize,
     ) -> Written;
-    pub fn zalghimo_bredr_read(input: *const u8, length: usize) -> Bredr;
-    pub fn zalghimo_bredr_write(
-        output: *mut u8,
-        length: usize,
-        place: usize,
-        rf_channel: u8,
-        signal: i8,
-        noise: i8,
-        offences: u8,
-        rate: u8,
-        header_bits: u8,
-        payload_bits: i16,
-        lap: u32,
-        reference: u32,
-        packet_header: u32,
-        flags: u16,
-    ) -> Written;
-    pub fn zalghimo_bredr_survey(input: *const u8, length: usize, counts: *mut u64) -> Done;
     pub fn zalghimo_radiotap_read(input: *const u8, length: usize, edition: u32) -> Radiotap;
     pub fn zalghimo_radiotap_word(input: *const u8, length: usize, number: usize) -> Word;
     pub fn zalghimo_radiotap_field(
