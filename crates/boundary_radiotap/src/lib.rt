@@ -1,5 +1,7 @@
 // The radiotap structs of the C boundary, and each answer as one of them. Kind 0 is a refusal, 1 values, 2 the end, 4
 // read and stopped at a named bit.
+#![tactic(auto)]
+
 pub mod rows;
 
 // zalghimo_radiotap

@@ -7,7 +7,7 @@ ghost use Rattle.bredr_rules.specs.Flags.{known_by};
 ghost use Rattle.bredr_rules.specs.Reading.{values_in, judged as judged_of, reading_of};
 ghost use Rattle.bredr_header.specs.Says.{told_says, bredr_says};
 
-use bredr_rules::{HEADER_LENGTH, LAST_CHANNEL, Values};
+use bredr_rules::{HEADER_LENGTH, LAST_CHANNEL, RF_CHANNEL, Values};
 use pseudo_header::{Knowledge, knowledge_of};
 use refusals::Refusal;
 
@@ -78,7 +78,7 @@ fn judged(values: Values) -> BredrAnswer
 {
     if LAST_CHANNEL < values.rf_channel {
         return BredrAnswer::Refused(Refusal {
-            number: refusals::RF_CHANNEL,
+            number: RF_CHANNEL,
             place: 0,
         });
     }

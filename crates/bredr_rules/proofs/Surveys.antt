@@ -9,9 +9,9 @@ use native.Mathlib.Omega.{arith}
 use lib.ListN.{length, get_or}
 use lib.Dec.{leb, eqb}
 use borrow.Author.Tests.{leb-true, leb-false, le-leb, lt-leb, eqb-true, eqb-false, eq-eqb, ne_eqb}
-use Rattle.refusals.specs.Refusals.{Answer, refused, given, rf_channel}
+use Rattle.refusals.specs.Refusals.{Answer, refused, given}
 use Rattle.refusals.proofs.Orders.{by_cases}
-use Rattle.bredr_rules.specs.Reading.{header_length, last_channel}
+use Rattle.bredr_rules.specs.Reading.{rf_channel, header_length, last_channel}
 use Rattle.bredr_rules.specs.Survey.{channels_in, counts_of, judged_from, survey_of}
 use Rattle.bredr_rules.specs.Orders.{FirstAbove, Surveys, SurveyExactly}
 

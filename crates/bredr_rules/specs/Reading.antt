@@ -1,6 +1,6 @@
 -- Request W-206: the reading of the 22 octets (source document 000). What follows them is payload and is not read.
 use Rattle.std.specs.Prelude.{ℕ, Bool, cond, List, length, get_or, leb, ltb}
-use Rattle.refusals.specs.Refusals.{Answer, refused, given, short_header, rf_channel}
+use Rattle.refusals.specs.Refusals.{Answer, refused, given, short_header}
 use Rattle.octets.specs.Numbers.{little, number_at}
 use Rattle.octets.specs.Signed.{signed}
 use Rattle.bredr_rules.specs.declared.Values.{Values}
@@ -29,6 +29,10 @@ values_in s =
       packet_header = number_at little 4 s 16;
       flags = number_at little 2 s 20;
     }
+
+-- an RF channel above 78 is refused with 8, as one above 39 is in the LE pseudo-header
+abbrev pub rf_channel : ℕ
+rf_channel = 8
 
 -- an RF channel is 0 to 78
 abbrev pub last_channel : ℕ

@@ -1,8 +1,8 @@
 -- Request W-206: the survey over headers laid end to end.
 use Rattle.std.specs.Prelude.{ℕ, zero, suc, ◌+◌, ◌*◌, ◌/◌, ◌%◌, cond, List, [], ◌∷◌, length, drop, eqb}
-use Rattle.refusals.specs.Refusals.{Answer, refused, given, short_header, rf_channel}
+use Rattle.refusals.specs.Refusals.{Answer, refused, given, short_header}
 use Rattle.bredr_rules.specs.declared.Values.{Values}
-use Rattle.bredr_rules.specs.Reading.{header_length, values_in, last_channel, channel_test}
+use Rattle.bredr_rules.specs.Reading.{rf_channel, header_length, values_in, last_channel, channel_test}
 
 -- how many whole headers an input has, and where the last of them ends
 abbrev pub headers_in : List ℕ → ℕ

@@ -1,11 +1,11 @@
 -- Request W-206: the writing of the twelve values, without payload, into an output at a place.
 use Rattle.std.specs.Prelude.{ℕ, ◌+◌, cond, List, ◌∷◌, ◌++◌, length}
-use Rattle.refusals.specs.Refusals.{Answer, refused, given, after_write, rf_channel, no_room}
+use Rattle.refusals.specs.Refusals.{Answer, refused, given, after_write, no_room}
 use Rattle.octets.specs.Numbers.{little, octets_of}
 use Rattle.octets.specs.Signed.{unsigned}
 use Rattle.octets.specs.Parts.{splice, has_room}
 use Rattle.bredr_rules.specs.declared.Values.{Values}
-use Rattle.bredr_rules.specs.Reading.{header_length, channel_test}
+use Rattle.bredr_rules.specs.Reading.{rf_channel, header_length, channel_test}
 
 -- the 22 octets of the values; of a reference LAP the low 24 bits
 unfoldable pub header_octets : Values → List ℕ

@@ -4,6 +4,8 @@
 
 // The length of the pseudo-header.
 pub const HEADER_LENGTH: usize = 22;
+// The refusal of an RF channel above the highest.
+pub const RF_CHANNEL: u32 = 8;
 // The highest RF channel.
 pub const LAST_CHANNEL: u8 = 78;
 

@@ -40,10 +40,6 @@ included_length = 6
 abbrev pub short_packet : ℕ
 short_packet = 7
 
--- 8: the RF channel is above the highest of its format
-abbrev pub rf_channel : ℕ
-rf_channel = 8
-
 -- 13: the output has no room from the given place
 abbrev pub no_room : ℕ
 no_room = 13

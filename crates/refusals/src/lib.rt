@@ -27,8 +27,6 @@ pub const SHORT_RECORD: u32 = 5;
 pub const INCLUDED_LENGTH: u32 = 6;
 // The packet octets run past the input, or an LE packet is too short.
 pub const SHORT_PACKET: u32 = 7;
-// The RF channel is above the highest of its format.
-pub const RF_CHANNEL: u32 = 8;
 // The output has no room from the given place.
 pub const NO_ROOM: u32 = 13;
 // A record place is outside the part of the input where records lie.
