@@ -1,4 +1,6 @@
 // The fields of a radiotap header as a list of numbers, four a field: word, bit, start, size.
+#![tactic(auto)]
+
 ghost use Rattle.std.specs.Prelude.{◌≡◌, [], ◌∷◌, map, ◌+◌, ◌*◌, ◌≤◌, length, get_or};
 ghost use Rattle.refusals.specs.Refusals.{given};
 ghost use Rattle.octets.specs.Parts.{splice};

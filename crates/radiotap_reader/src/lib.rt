@@ -1,6 +1,8 @@
 // A reader that walks over a radiotap header from one field to the next: a small struct that holds the header, the
 // edition and its place. The work is done by radiotap_place's functions with plain parameters; those over the struct are
 // thin.
+#![tactic(auto)]
+
 ghost use Rattle.std.specs.Prelude.{◌≡◌};
 ghost use Rattle.radiotap_rules.specs.Table.{our_rules};
 ghost use Rattle.radiotap_rules.specs.Reading.{reading, field_of};

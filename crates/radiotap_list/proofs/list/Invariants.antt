@@ -1,0 +1,29 @@
+use Prim.Native.Nat.{ℕ, ◌-◌, min}
+use mathlib.Core.List.{List}
+use lib.Count.{count_trailing_zeros}
+use Rattle.radiotap_rules.specs.declared.Cursor.{Cursor}
+use Rattle.radiotap_rules.specs.Table.{our_rules}
+use Rattle.radiotap_rules.specs.Reading.{word_bits}
+use Rattle.radiotap_rules.specs.Steps.{first_cursor}
+use Rattle.radiotap.proofs.CountLaws.{AtWord, Counting}
+use Rattle.radiotap_list.proofs.ListLaws.{SoFar, Filled}
+use Rattle.radiotap_list.proofs.list.Given as goal
+
+abbrev pub invariant-loop-left : goal.invariant-loop-left
+invariant-loop-left l =
+    (c : Cursor)
+    × Counting l.taken l.s l.known l.size l.head.words c l.index l.left (count_trailing_zeros word_bits l.carried.unknown) l.last l.fields
+    × ((base : List ℕ) → Filled our_rules l.taken l.s l.room (first_cursor l.head) base l.initial.out (min l.initial.fields l.room)
+    → SoFar our_rules l.taken l.s l.room (first_cursor l.head) base l.out c (min l.fields l.room))
+
+abbrev pub decreases-loop-left : goal.decreases-loop-left
+decreases-loop-left l = l.left
+
+abbrev pub invariant-loop-bit : goal.invariant-loop-bit
+invariant-loop-bit l =
+    (c : Cursor)
+    × AtWord l.taken l.s l.known l.size l.head.words c l.index l.word l.last l.fields
+    × SoFar our_rules l.taken l.s l.room (first_cursor l.head) l.initial.out l.out c (min l.fields l.room)
+
+abbrev pub decreases-loop-bit : goal.decreases-loop-bit
+decreases-loop-bit l = l.head.words - l.index
