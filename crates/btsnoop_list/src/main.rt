@@ -1,14 +1,18 @@
 // Lists a BTSnoop file: reads it from standard input and writes its lines to standard output.
+#![tactic(auto)]
+
 ghost use Rattle.std.specs.Prelude.{length, ◌≡◌};
+ghost use Rattle.std.specs.Io.{ReadsAtMost};
 
-use libc::{STDIN_FILENO, STDOUT_FILENO};
 use refusals::WriteAnswer;
+use std::io;
+use std::io::{Read, Write};
 
-fn main() {
+fn main(rt: HostRuntime) -> io::Result<()> {
     let mut input = input_room();
-    let read = io::read_full(STDIN_FILENO, &mut input);
+    let read = read_full(&mut rt.stdin(), &mut input)?;
     let mut output = output_room();
-    list(&mut output, &input[..read]);
+    list(&mut rt.stdout(), &mut output, &input[..read])
 }
 
 // One octet more than is listed, so that a longer input is known by it.
@@ -25,12 +29,25 @@ fn output_room() -> [u8; 524288]
     [0; 524288]
 }
 
-// Writes the listing of an input. It always has room: no listing is longer than the output.
-fn list(output: &mut [u8], input: &[u8]) {
-    match listing::write(output, 0, input) {
-        WriteAnswer::Refused(_) => {}
-        WriteAnswer::Written(size) => {
-            io::write_all(STDOUT_FILENO, octets::part(output, 0, size));
+// Reads until the room is full or the input ends, and tells how many octets it put at the start of the room.
+fn read_full(from: &mut impl Read, room: &mut [u8]) -> io::Result<usize>
+    ensures { ReadsAtMost result room.new }
+{
+    let mut done = 0;
+    while done < room.len() {
+        let n = from.read(&mut room[done..])?;
+        if n == 0 {
+            break;
         }
+        done += n;
+    }
+    Ok(done)
+}
+
+// Writes the listing of an input. It always has room: no listing is longer than the output.
+fn list(to: &mut impl Write, output: &mut [u8], input: &[u8]) -> io::Result<()> {
+    match listing::write(output, 0, input) {
+        WriteAnswer::Refused(_) => Ok(()),
+        WriteAnswer::Written(size) => to.write_all(octets::part(output, 0, size)),
     }
 }
