@@ -1,5 +1,7 @@
 // The plan of a radiotap header that is to be written: whether the edition knows every set bit of its presence word, and
 // how long the header and its values are.
+#![tactic(auto)]
+
 ghost use Rattle.radiotap_plan.specs.Says.{PlanSays};
 
 use radiotap_table::Layout;

@@ -1,4 +1,6 @@
 // Writing a radiotap header with one presence word into an output at a place.
+#![tactic(auto)]
+
 ghost use Rattle.std.specs.Prelude.{◌≡◌, [], ◌∷◌, ◌++◌, ◌+◌, ◌≤◌, length, replicate};
 ghost use Rattle.refusals.specs.Says.{write_says};
 ghost use Rattle.octets.specs.Numbers.{little, octets_of};
