@@ -1,4 +1,6 @@
 // The functions of radiotap headers, as the C boundary has them.
+#![tactic(auto)]
+
 ghost use Rattle.std.specs.Prelude.{◌≡◌, length};
 ghost use Rattle.radiotap_rules.specs.Table.{our_rules};
 ghost use Rattle.radiotap_rules.specs.Reading.{reading, field_of};
