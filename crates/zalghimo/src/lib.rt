@@ -1,6 +1,8 @@
 // What C calls, for crates of Rattle: each function asks nothing of its caller, and returns a struct of 64-bit numbers by
 // value. Each calls a function of the crate of its family, with the same parameters and promise, so that a wrong call is
 // tried there and not among all of them. The crate zalghimo_c exports each to C under its name.
+#![tactic(auto)]
+
 ghost use Rattle.std.specs.Prelude.{◌≡◌, length};
 ghost use Rattle.btsnoop_rules.specs.Header.{header_at};
 ghost use Rattle.btsnoop_rules.specs.Record.{record_at};

@@ -1,6 +1,8 @@
 // The C boundary: each function asks nothing of its caller beyond valid pointers and lengths, and returns a struct of
 // 64-bit numbers by value. include/zalghimo.h declares them for C. Each exports the function of its name of the crate
 // zalghimo, with the same parameters and promise. The static library is libzalghimo.a.
+#![tactic(auto)]
+
 ghost use Rattle.std.specs.Prelude.{◌≡◌, length};
 ghost use Rattle.btsnoop_rules.specs.Header.{header_at};
 ghost use Rattle.btsnoop_rules.specs.Record.{record_at};
