@@ -90,7 +90,7 @@ fn stays(answer: Step) -> bool
 // It is moved on as far as it moves, however many moves are asked for.
 pub fn after_moves(header: &[u8], edition: u32, moves: usize) -> Step
     ensures result_value { step_says header.now result ≡ answer_after our_rules edition header.now moves }
-    ensures result_value_2 { shown_by (step_says header.now result) ≡ field_of (reading our_rules edition header.now) moves }
+    ensures field_shown { shown_by (step_says header.now result) ≡ field_of (reading our_rules edition header.now) moves }
     ensures step_sized { StepSized result }
 {
     let mut place = radiotap_place::fresh(header, edition);

@@ -1,5 +1,7 @@
 // Answers the stored questions on standard input by the library, one line each on standard output. The questions and
 // the expected lines are made by the independent program.
+#![tactic(auto)]
+
 mod answers_btsnoop;
 mod answers_btsnoop_writing;
 mod answers_le;

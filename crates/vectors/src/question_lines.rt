@@ -103,8 +103,8 @@ pub fn signed(n: u64) -> i64
 
 // Room for an output, with the octets at its start that stand there before the writing.
 pub fn room(before: &[u8]) -> [u8; 512]
-    ensures value { 512 ≡ length result }
-    ensures value_2 { result ≡ room_of before.now }
+    ensures size { 512 ≡ length result }
+    ensures octets { result ≡ room_of before.now }
 {
     let mut out = [0u8; 512];
     octets_put::put(&mut out, 0, before);
@@ -120,7 +120,7 @@ pub fn least(n: usize, most: usize) -> usize
 
 // A number of octets of a buffer, at most all of them.
 pub fn within(n: usize, buffer: &[u8]) -> usize
-    ensures value { result ≡ min n (length buffer.now) }
+    ensures least { result ≡ min n (length buffer.now) }
     ensures prefix_len { IsPrefixLen result buffer.now }
 {
     least(n, buffer.len())

@@ -21,7 +21,7 @@ returns-then-moved-moves c =
     ] in
     record {
       result_value = answers;
-      result_value_2 = shown_after our_rules a.edition a.header.now a.moves answers;
+      field_shown = shown_after our_rules a.edition a.header.now a.moves answers;
       step_sized = c.asked-answer.ensures.step_sized;
     }
 
