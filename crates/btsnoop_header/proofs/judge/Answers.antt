@@ -13,16 +13,14 @@ returns-then-be64-ne-IDENTIFICATION_OCTETS c =
 
 pub returns-then-be32-ne-VERSION_NUMBER : goal.returns-then-be32-ne-VERSION_NUMBER
 returns-then-be32-ne-VERSION_NUMBER c =
-    let same : octets_at c.args.s.now 0 8 ≡ identification_octets = identified c.args.s.now (λ i. (c.shared_slice_known-1.given i).fits)
-    (sym c.be64.ensures ∙ c.if-be64-ne-IDENTIFICATION_OCTETS.false) in
     let s = c.args.s.now in
+    let same = identified s (λ i. (c.type_inv.s i).fits) (sym c.be64.ensures ∙ c.if-be64-ne-IDENTIFICATION_OCTETS.false) in
     sym (judged-version s same (λ e. c.if-be32-ne-VERSION_NUMBER.true (c.be32.ensures ∙ e)))
 
 pub returns-then-served : goal.returns-then-served
 returns-then-served c =
-    let same : octets_at c.args.s.now 0 8 ≡ identification_octets = identified c.args.s.now (λ i. (c.shared_slice_known-1.given i).fits)
-    (sym c.be64.ensures ∙ c.if-be64-ne-IDENTIFICATION_OCTETS.false) in
     let s = c.args.s.now in
+    let same = identified s (λ i. (c.type_inv.s i).fits) (sym c.be64.ensures ∙ c.if-be64-ne-IDENTIFICATION_OCTETS.false) in
     let code = c.be32-datalink.ensures in
     let version = sym c.be32.ensures ∙ c.if-be32-ne-VERSION_NUMBER.false in
     ap given code
@@ -30,9 +28,8 @@ returns-then-served c =
 
 pub returns-else-served : goal.returns-else-served
 returns-else-served c =
-    let same : octets_at c.args.s.now 0 8 ≡ identification_octets = identified c.args.s.now (λ i. (c.shared_slice_known-1.given i).fits)
-    (sym c.be64.ensures ∙ c.if-be64-ne-IDENTIFICATION_OCTETS.false) in
     let s = c.args.s.now in
+    let same = identified s (λ i. (c.type_inv.s i).fits) (sym c.be64.ensures ∙ c.if-be64-ne-IDENTIFICATION_OCTETS.false) in
     let code = c.be32-datalink.ensures in
     let version = sym c.be32.ensures ∙ c.if-be32-ne-VERSION_NUMBER.false in
     sym (judged-datalink s same version (ap served (sym code) ∙ sym c.served.ensures ∙ c.if-served.false))

@@ -2,12 +2,19 @@
 use Prim.Native.Nat.{ℕ, ◌+◌, ◌-◌, ◌≤◌, ◌<◌}
 use native.Mathlib.Omega.{arith}
 use mathlib.Core.Path.{◌≡◌, sym, ap, ◌∙◌}
+use mathlib.Core.List.{List}
 use lib.ListN.{length}
 use lib.Arith.{lt_of_le-ne}
 use Rattle.refusals.specs.Refusals.{given}
-use Rattle.btsnoop_rules.specs.Record.{numbers_at, whole, record_at, record_judged}
+use Rattle.btsnoop_rules.specs.Header.{header_length}
+use Rattle.btsnoop_rules.specs.Record.{record_length, numbers_at, whole, record_at, record_judged}
 use Rattle.btsnoop_rules.proofs.RecordLaws.{record_end, record_short, record_judged_lem, judged_above, judged_past, judged-whole}
 use Rattle.btsnoop_survey.proofs.judge.Goals as goal
+
+-- with a record's header left at a place, its reading is the judgement of its numbers
+judged : (s : List ℕ) (p : ℕ) → header_length ≤ p → p ≤ length s → (p ≡ length s → ⊥) → record_length ≤ length s - p
+    → record_at s p ≡ record_judged (length s - p) p (numbers_at s p)
+judged s p low high other left = record_judged_lem s p low (lt_of_le-ne high other) left
 
 pub returns-then-place-s : goal.returns-then-place-s
 returns-then-place-s c =
@@ -16,55 +23,35 @@ returns-then-place-s c =
 
 pub returns-then-left-lt-RECORD_LENGTH : goal.returns-then-left-lt-RECORD_LENGTH
 returns-then-left-lt-RECORD_LENGTH c =
-    let inside : c.args.place < length c.args.s.now = lt_of_le-ne (omega arith) c.if-place-s.false in
     let a = c.args in
-    record_short a.s.now a.place (omega arith) inside (omega arith)
+    record_short a.s.now a.place (omega arith) (lt_of_le-ne (omega arith) c.if-place-s.false) (omega arith)
 
 pub returns-then-be32-included : goal.returns-then-be32-included
 unfolding numbers_at
 returns-then-be32-included c =
-    let inside : c.args.place < length c.args.s.now = lt_of_le-ne (omega arith) c.if-place-s.false in
-    let judged : let a = c.args in
-    record_at a.s.now a.place ≡ record_judged (length a.s.now - a.place) a.place (numbers_at a.s.now a.place) = let a = c.args in
-    record_judged_lem a.s.now a.place (omega arith) inside (omega arith) in
-    let lengths-known : let a = c.args in
-    ((numbers_at a.s.now a.place).included ≡ c.be32-included.result) × ((numbers_at a.s.now a.place).original ≡ c.be32.result) = (sym c.be32-included.ensures, sym c.be32.ensures) in
     let a = c.args in
     let n = numbers_at a.s.now a.place in
-    let lengths = lengths-known in
-    let above : n.original < n.included = omega (arith, lengths.0, lengths.1) in
-    judged ∙ judged_above (length a.s.now - a.place) a.place n above
+    let above : n.original < n.included = omega (arith, c.be32-included.ensures, c.be32.ensures) in
+    judged a.s.now a.place (omega arith) (omega arith) c.if-place-s.false (omega arith)
+    ∙ judged_above (length a.s.now - a.place) a.place n above
 
 pub returns-then-s-packet : goal.returns-then-s-packet
 unfolding numbers_at
 returns-then-s-packet c =
-    let inside : c.args.place < length c.args.s.now = lt_of_le-ne (omega arith) c.if-place-s.false in
-    let judged : let a = c.args in
-    record_at a.s.now a.place ≡ record_judged (length a.s.now - a.place) a.place (numbers_at a.s.now a.place) = let a = c.args in
-    record_judged_lem a.s.now a.place (omega arith) inside (omega arith) in
-    let lengths-known : let a = c.args in
-    ((numbers_at a.s.now a.place).included ≡ c.be32-included.result) × ((numbers_at a.s.now a.place).original ≡ c.be32.result) = (sym c.be32-included.ensures, sym c.be32.ensures) in
     let a = c.args in
     let n = numbers_at a.s.now a.place in
-    let lengths = lengths-known in
-    let fits : n.included ≤ n.original = omega (arith, lengths.0, lengths.1) in
-    let past : length a.s.now - a.place < 24 + n.included = omega (arith, lengths.0, lengths.1) in
-    judged ∙ judged_past (length a.s.now - a.place) a.place n fits past
+    let fits : n.included ≤ n.original = omega (arith, c.be32-included.ensures, c.be32.ensures) in
+    let past : length a.s.now - a.place < record_length + n.included = omega (arith, c.be32-included.ensures) in
+    judged a.s.now a.place (omega arith) (omega arith) c.if-place-s.false (omega arith)
+    ∙ judged_past (length a.s.now - a.place) a.place n fits past
 
 pub returns : goal.returns
 unfolding numbers_at
 returns c =
-    let inside : c.args.place < length c.args.s.now = lt_of_le-ne (omega arith) c.if-place-s.false in
-    let judged : let a = c.args in
-    record_at a.s.now a.place ≡ record_judged (length a.s.now - a.place) a.place (numbers_at a.s.now a.place) = let a = c.args in
-    record_judged_lem a.s.now a.place (omega arith) inside (omega arith) in
-    let lengths-known : let a = c.args in
-    ((numbers_at a.s.now a.place).included ≡ c.be32-included.result) × ((numbers_at a.s.now a.place).original ≡ c.be32.result) = (sym c.be32-included.ensures, sym c.be32.ensures) in
     let a = c.args in
     let n = numbers_at a.s.now a.place in
-    let lengths = lengths-known in
-    let fits : n.included ≤ n.original = omega (arith, lengths.0, lengths.1) in
-    let enough : 24 + n.included ≤ length a.s.now - a.place = omega (arith, lengths.0, lengths.1) in
-    judged
+    let fits : n.included ≤ n.original = omega (arith, c.be32-included.ensures, c.be32.ensures) in
+    let enough : record_length + n.included ≤ length a.s.now - a.place = omega (arith, c.be32-included.ensures) in
+    judged a.s.now a.place (omega arith) (omega arith) c.if-place-s.false (omega arith)
     ∙ judged-whole (length a.s.now - a.place) a.place n fits enough
-    ∙ ap (λ (k : ℕ). given (whole n (a.place + 24) (a.place + 24 + k))) lengths.0
+    ∙ ap (λ (k : ℕ). given (whole n (a.place + record_length) (a.place + record_length + k))) (sym c.be32-included.ensures)

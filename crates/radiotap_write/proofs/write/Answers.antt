@@ -1,11 +1,10 @@
 -- `radiotap_write::write` meets its contract: each way out is one outcome of the write.
-use Prim.Native.Nat.{◌+◌, ◌≤◌}
+use Prim.Native.Nat.{ℕ, ◌+◌, ◌≤◌}
 use mathlib.Core.Path.{◌≡◌, refl, sym, subst, ◌∙◌}
-use mathlib.Core.Bool.{true}
+use mathlib.Core.List.{List}
 use lib.ListN.{length}
 use native.Mathlib.Omega.{arith}
 use borrow.Author.Tests.{leb-true, leb-false}
-use Rattle.radiotap_rules.specs.Rules.{served}
 use Rattle.radiotap_rules.specs.Table.{our_rules}
 use Rattle.radiotap_rules.specs.Writing.{plan, summed, header_octets}
 use Rattle.radiotap_rules.proofs.Planning.{header-ends}
@@ -13,6 +12,13 @@ use Rattle.radiotap_plan.specs.declared.Plan.{Plan}
 use Rattle.radiotap_plan.specs.Says.{PlanSays}
 use Rattle.radiotap_write.proofs.WriteLaws.{write_edition, write_unknown, write_values, write_room, write_given}
 use Rattle.radiotap_write.proofs.write.Goals as goal
+
+-- the values that a plan asks for, and the header's length by it
+lengths : (e presence : ℕ) (values : List ℕ) {size sum : ℕ} → PlanSays e presence (Plan.Fields size sum) → length values ≡ sum
+    → (length values ≡ summed (plan our_rules e presence)) × (length (header_octets our_rules e presence values) ≡ size)
+lengths e presence values told all =
+    let same : length values ≡ summed (plan our_rules e presence) = omega (arith, told.2) in
+    (same, header-ends our_rules e presence values refl same ∙ sym told.1)
 
 pub returns-then-not-served : goal.returns-then-not-served
 returns-then-not-served c =
@@ -23,54 +29,38 @@ returns-then-not-served c =
 
 pub returns-then-values-summed : goal.returns-then-values-summed
 returns-then-values-summed c =
-    let edition_served : served our_rules c.args.edition ≡ true = sym c.served.ensures ∙ c.if-not-served.false in
-    let fields : PlanSays c.writing-taken.result c.args.presence (Plan.Fields c.in-Fields.size c.in-Fields.summed) = subst (PlanSays c.writing-taken.result c.args.presence) c.in-Fields.is c.planned.ensures in
+    let edition_served = sym c.served.ensures ∙ c.if-not-served.false in
+    let fields = subst (PlanSays c.writing-taken.result c.args.presence) c.in-Fields.is c.planned.ensures in
     let a = c.args in
     let e = c.writing-taken in
-    let told = fields in
     let outcome =
     write_values our_rules a.out.now a.place a.edition a.presence a.values.now e.result e.ensures
-    edition_served told.0 (λ same. absurd (omega (arith, told.2))) in
+    edition_served fields.0 (λ same. absurd (omega (arith, fields.2))) in
     record { result_value = c.write_refused-then-values-summed.ensures ∙ outcome.0; out_after = outcome.1 }
 
 pub returns-then-not-has_room : goal.returns-then-not-has_room
 returns-then-not-has_room c =
-    let edition_served : served our_rules c.args.edition ≡ true = sym c.served.ensures ∙ c.if-not-served.false in
-    let fields : PlanSays c.writing-taken.result c.args.presence (Plan.Fields c.in-Fields.size c.in-Fields.summed) = subst (PlanSays c.writing-taken.result c.args.presence) c.in-Fields.is c.planned.ensures in
-    let long : let a = c.args in
-    (length a.values.now ≡ summed (plan our_rules c.writing-taken.result a.presence))
-    × (length (header_octets our_rules c.writing-taken.result a.presence a.values.now) ≡ c.in-Fields.size) = let a = c.args in
-    let e = c.writing-taken.result in
-    let told = fields in
-    let same : length a.values.now ≡ summed (plan our_rules e a.presence) = omega (arith, told.2) in
-    (same, header-ends our_rules e a.presence a.values.now refl same ∙ sym told.1) in
+    let edition_served = sym c.served.ensures ∙ c.if-not-served.false in
+    let fields = subst (PlanSays c.writing-taken.result c.args.presence) c.in-Fields.is c.planned.ensures in
+    let long = lengths c.writing-taken.result c.args.presence c.args.values.now fields c.if-values-summed.false in
     let a = c.args in
     let e = c.writing-taken in
-    let told = fields in
-    let both = long in
     let few = leb-false _ _ (sym c.has_room.ensures ∙ c.if-not-has_room.true) in
     let outcome =
     write_room our_rules a.out.now a.place a.edition a.presence a.values.now e.result e.ensures
-    edition_served told.0 both.0 _ both.1 few in
+    edition_served fields.0 long.0 _ long.1 few in
     record { result_value = c.write_refused-then-not-has_room.ensures ∙ outcome.0; out_after = outcome.1 }
 
 pub put_header-requires : goal.put_header-requires
 put_header-requires c =
-    let fields : PlanSays c.writing-taken.result c.args.presence (Plan.Fields c.in-Fields.size c.in-Fields.summed) = subst (PlanSays c.writing-taken.result c.args.presence) c.in-Fields.is c.planned.ensures in
-    let long : let a = c.args in
-    (length a.values.now ≡ summed (plan our_rules c.writing-taken.result a.presence))
-    × (length (header_octets our_rules c.writing-taken.result a.presence a.values.now) ≡ c.in-Fields.size) = let a = c.args in
-    let e = c.writing-taken.result in
-    let told = fields in
-    let same : length a.values.now ≡ summed (plan our_rules e a.presence) = omega (arith, told.2) in
-    (same, header-ends our_rules e a.presence a.values.now refl same ∙ sym told.1) in
+    let fields = subst (PlanSays c.writing-taken.result c.args.presence) c.in-Fields.is c.planned.ensures in
+    let long = lengths c.writing-taken.result c.args.presence c.args.values.now fields c.if-values-summed.false in
     let room : c.args.place + c.in-Fields.size ≤ length c.args.out.now = leb-true _ _ (sym c.has_room.ensures ∙ c.if-not-has_room.false) in
-    let both = long in
-    (record { known = fields.0; long = both.0; fits = rw both.1 room }, sym both.1)
+    (record { known = fields.0; long = long.0; fits = rw long.1 room }, sym long.1)
 
 pub returns-in-Unknown : goal.returns-in-Unknown
 returns-in-Unknown c =
-    let edition_served : served our_rules c.args.edition ≡ true = sym c.served.ensures ∙ c.if-not-served.false in
+    let edition_served = sym c.served.ensures ∙ c.if-not-served.false in
     let a = c.args in
     let e = c.writing-taken in
     let unknown = subst (PlanSays e.result a.presence) c.in-Unknown.is c.planned.ensures in
@@ -81,21 +71,13 @@ returns-in-Unknown c =
 
 pub returns-else-not-has_room : goal.returns-else-not-has_room
 returns-else-not-has_room c =
-    let edition_served : served our_rules c.args.edition ≡ true = sym c.served.ensures ∙ c.if-not-served.false in
-    let fields : PlanSays c.writing-taken.result c.args.presence (Plan.Fields c.in-Fields.size c.in-Fields.summed) = subst (PlanSays c.writing-taken.result c.args.presence) c.in-Fields.is c.planned.ensures in
-    let long : let a = c.args in
-    (length a.values.now ≡ summed (plan our_rules c.writing-taken.result a.presence))
-    × (length (header_octets our_rules c.writing-taken.result a.presence a.values.now) ≡ c.in-Fields.size) = let a = c.args in
-    let e = c.writing-taken.result in
-    let told = fields in
-    let same : length a.values.now ≡ summed (plan our_rules e a.presence) = omega (arith, told.2) in
-    (same, header-ends our_rules e a.presence a.values.now refl same ∙ sym told.1) in
+    let edition_served = sym c.served.ensures ∙ c.if-not-served.false in
+    let fields = subst (PlanSays c.writing-taken.result c.args.presence) c.in-Fields.is c.planned.ensures in
+    let long = lengths c.writing-taken.result c.args.presence c.args.values.now fields c.if-values-summed.false in
     let room : c.args.place + c.in-Fields.size ≤ length c.args.out.now = leb-true _ _ (sym c.has_room.ensures ∙ c.if-not-has_room.false) in
     let a = c.args in
     let e = c.writing-taken in
-    let told = fields in
-    let both = long in
     let outcome =
     write_given our_rules a.out.now a.place a.edition a.presence a.values.now e.result e.ensures
-    edition_served told.0 both.0 _ both.1 room c.put_header.ensures in
+    edition_served fields.0 long.0 _ long.1 room c.put_header.ensures in
     record { result_value = outcome.0; out_after = outcome.1 }
