@@ -1,8 +1,7 @@
 -- `btsnoop_header::judge` meets its contract: the case laws of the judgement, test by test; the identification octets compared as one number.
-use mathlib.Core.Path.{◌≡◌, sym, ap, ◌∙◌}
+use mathlib.Core.Path.{sym, ap, ◌∙◌}
 use Rattle.refusals.specs.Refusals.{given}
-use Rattle.octets.specs.Numbers.{octets_at}
-use Rattle.btsnoop_rules.specs.Header.{identification_octets, served}
+use Rattle.btsnoop_rules.specs.Header.{served}
 use Rattle.btsnoop_rules.proofs.HeaderLaws.{identified, not_identified, judged-other, judged-version, judged-datalink, judged-code}
 use Rattle.btsnoop_header.proofs.judge.Goals as goal
 

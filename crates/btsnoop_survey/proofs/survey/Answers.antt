@@ -1,6 +1,5 @@
 -- `btsnoop_survey::survey` meets its contract: the loop keeps that the whole survey is what was counted so far and the survey of what is left (`SoFar`), and each
 -- answer of the record reader carries it on.
-use Prim.Native.Nat.{◌-◌}
 use native.Mathlib.Omega.{arith}
 use mathlib.Core.Path.{sym, subst}
 use Rattle.btsnoop_survey.specs.Says.{StepSays}

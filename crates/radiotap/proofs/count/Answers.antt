@@ -1,15 +1,10 @@
 -- `radiotap::count` meets its contract: the outer loop keeps what was found up to a word (`AtWord`), the inner one where it stands in the
 -- word (`Counting`); each bit that is shown is a field that is met or refused, and behind them the word stops the walk, ends it or is passed.
-use Prim.Native.Nat.{◌+◌, ◌^◌, ◌<◌}
 use native.Mathlib.Omega.{arith}
 use mathlib.Core.Path.{sym, ap}
 use lib.ListN.{get_or}
-use lib.Bits.{bit_or}
-use lib.Count.{count_trailing_zeros}
 use Rattle.octets.specs.Numbers.{number, number_at}
 use Rattle.radiotap_rules.specs.Table.{our_rules}
-use Rattle.radiotap_rules.specs.Reading.{word_bits}
-use Rattle.radiotap_table.specs.Says.{SpannedAs}
 use Rattle.radiotap_table.proofs.RowLaws.{row-spans}
 use Rattle.radiotap.specs.Outcomes.{summarised}
 use Rattle.radiotap.proofs.WalkLaws.{refuses, finishes}
@@ -23,40 +18,35 @@ loop-bit-init c =
 
 pub overflow_add-last-in-loop-left : goal.overflow_add-last-in-loop-left
 overflow_add-last-in-loop-left c =
-    let small : count_trailing_zeros word_bits c.loop-left.left < word_bits = let a = c.args in
-    counts_small a.taken a.s.now c.known-known.result c.loop-left.invariant.1 c.loop-left-test.true in
-    let spans : SpannedAs (count_trailing_zeros word_bits c.loop-left.left) c.span_of-span.result = row-spans our_rules c.rows-rows.ensures (count_trailing_zeros word_bits c.loop-left.left) small c.span_of-span.ensures in
-    let near : bit_or c.loop-left.last c.span_of-span.result.mask < 2 ^ 32 + 43 = let a = c.args in
+    let a = c.args in
     let w = c.loop-left.invariant.1 in
-    omega (arith, counts_near a.taken a.s.now c.known-known.result w c.loop-left-test.true spans, w.sofar.room) in
-    omega arith
+    let small = counts_small a.taken a.s.now c.known-known.result w c.loop-left-test.true in
+    let spans = row-spans our_rules c.rows-rows.ensures _ small c.span_of-span.ensures in
+    omega (arith, counts_near a.taken a.s.now c.known-known.result w c.loop-left-test.true spans, w.sofar.room)
 
 pub overflow_add-result : goal.overflow_add-result
 overflow_add-result c =
-    let small : count_trailing_zeros word_bits c.loop-left.left < word_bits = let a = c.args in
-    counts_small a.taken a.s.now c.known-known.result c.loop-left.invariant.1 c.loop-left-test.true in
-    let spans : SpannedAs (count_trailing_zeros word_bits c.loop-left.left) c.span_of-span.result = row-spans our_rules c.rows-rows.ensures (count_trailing_zeros word_bits c.loop-left.left) small c.span_of-span.ensures in
-    let near : bit_or c.loop-left.last c.span_of-span.result.mask < 2 ^ 32 + 43 = let a = c.args in
+    let a = c.args in
     let w = c.loop-left.invariant.1 in
-    omega (arith, counts_near a.taken a.s.now c.known-known.result w c.loop-left-test.true spans, w.sofar.room) in
-    omega arith
+    let small = counts_small a.taken a.s.now c.known-known.result w c.loop-left-test.true in
+    let spans = row-spans our_rules c.rows-rows.ensures _ small c.span_of-span.ensures in
+    omega (arith, counts_near a.taken a.s.now c.known-known.result w c.loop-left-test.true spans, w.sofar.room)
 
 pub returns-then-size-last : goal.returns-then-size-last
 returns-then-size-last c =
-    let small : count_trailing_zeros word_bits c.loop-left.left < word_bits = let a = c.args in
-    counts_small a.taken a.s.now c.known-known.result c.loop-left.invariant.1 c.loop-left-test.true in
-    let spans : SpannedAs (count_trailing_zeros word_bits c.loop-left.left) c.span_of-span.result = row-spans our_rules c.rows-rows.ensures (count_trailing_zeros word_bits c.loop-left.left) small c.span_of-span.ensures in
     let a = c.args in
     let w = c.loop-left.invariant.1 in
+    let small = counts_small a.taken a.s.now c.known-known.result w c.loop-left-test.true in
+    let spans = row-spans our_rules c.rows-rows.ensures _ small c.span_of-span.ensures in
     let step = counts_past a.taken a.s.now c.known-known.result w c.loop-left-test.true spans c.if-size-last.true in
     sym (ap (summarised _ a.head) (refuses our_rules a.taken a.s.now 0 w.sofar.found step))
 
 pub loop-left-preserved : goal.loop-left-preserved
 loop-left-preserved c =
-    let small : count_trailing_zeros word_bits c.loop-left.left < word_bits = let a = c.args in
-    counts_small a.taken a.s.now c.known-known.result c.loop-left.invariant.1 c.loop-left-test.true in
-    let spans : SpannedAs (count_trailing_zeros word_bits c.loop-left.left) c.span_of-span.result = row-spans our_rules c.rows-rows.ensures (count_trailing_zeros word_bits c.loop-left.left) small c.span_of-span.ensures in
     let a = c.args in
+    let w = c.loop-left.invariant.1 in
+    let small = counts_small a.taken a.s.now c.known-known.result w c.loop-left-test.true in
+    let spans = row-spans our_rules c.rows-rows.ensures _ small c.span_of-span.ensures in
     (_, counts_next a.taken a.s.now c.known-known.result c.loop-left.invariant.1 c.loop-left-test.true spans c.if-size-last.false)
 
 pub returns-then-carried-ne0 : goal.returns-then-carried-ne0
@@ -81,38 +71,32 @@ returns-then-word-eq0 c =
 pub bounds-s-at : goal.bounds-s-at
 bounds-s-at c =
     let a = c.args in
-    let more : c.loop-bit.index + 1 < a.head.words =
-    word-followed a.taken a.s.now c.known-known.result c.loop-bit.invariant.1 c.if-word-eq0.false in
-    omega (arith, c.loop-left.invariant.1.sofar.inside)
+    let more = word-followed a.taken a.s.now c.known-known.result c.loop-bit.invariant.1 c.if-word-eq0.false in
+    omega (arith, more, c.loop-left.invariant.1.sofar.inside)
 
 pub bounds-s-at-in-loop-bit : goal.bounds-s-at-in-loop-bit
 bounds-s-at-in-loop-bit c =
     let a = c.args in
-    let more : c.loop-bit.index + 1 < a.head.words =
-    word-followed a.taken a.s.now c.known-known.result c.loop-bit.invariant.1 c.if-word-eq0.false in
-    omega (arith, c.loop-left.invariant.1.sofar.inside)
+    let more = word-followed a.taken a.s.now c.known-known.result c.loop-bit.invariant.1 c.if-word-eq0.false in
+    omega (arith, more, c.loop-left.invariant.1.sofar.inside)
 
 pub bounds-s-at-in-loop-bit-2 : goal.bounds-s-at-in-loop-bit-2
 bounds-s-at-in-loop-bit-2 c =
     let a = c.args in
-    let more : c.loop-bit.index + 1 < a.head.words =
-    word-followed a.taken a.s.now c.known-known.result c.loop-bit.invariant.1 c.if-word-eq0.false in
-    omega (arith, c.loop-left.invariant.1.sofar.inside)
+    let more = word-followed a.taken a.s.now c.known-known.result c.loop-bit.invariant.1 c.if-word-eq0.false in
+    omega (arith, more, c.loop-left.invariant.1.sofar.inside)
 
 pub bounds-s-at-in-loop-bit-3 : goal.bounds-s-at-in-loop-bit-3
 bounds-s-at-in-loop-bit-3 c =
     let a = c.args in
-    let more : c.loop-bit.index + 1 < a.head.words =
-    word-followed a.taken a.s.now c.known-known.result c.loop-bit.invariant.1 c.if-word-eq0.false in
-    omega (arith, c.loop-left.invariant.1.sofar.inside)
+    let more = word-followed a.taken a.s.now c.known-known.result c.loop-bit.invariant.1 c.if-word-eq0.false in
+    omega (arith, more, c.loop-left.invariant.1.sofar.inside)
 
 pub returns-then-unknown-ne0 : goal.returns-then-unknown-ne0
 unfolding number_at number
 returns-then-unknown-ne0 c =
     let a = c.args in
-    let more : c.loop-bit.index + 1 < a.head.words =
-    word-followed a.taken a.s.now c.known-known.result c.loop-bit.invariant.1 c.if-word-eq0.false in
-    let a = c.args in
+    let more = word-followed a.taken a.s.now c.known-known.result c.loop-bit.invariant.1 c.if-word-eq0.false in
     let w = c.loop-left.invariant.1 in
     let known = c.known-known.result in
     let past = stop-none a.taken a.s.now known c.if-carried-ne0.false in
@@ -123,9 +107,7 @@ pub loop-bit-preserved : goal.loop-bit-preserved
 unfolding number_at number
 loop-bit-preserved c =
     let a = c.args in
-    let more : c.loop-bit.index + 1 < a.head.words =
-    word-followed a.taken a.s.now c.known-known.result c.loop-bit.invariant.1 c.if-word-eq0.false in
-    let a = c.args in
+    let more = word-followed a.taken a.s.now c.known-known.result c.loop-bit.invariant.1 c.if-word-eq0.false in
     let w = c.loop-left.invariant.1 in
     let known = c.known-known.result in
     let past = stop-none a.taken a.s.now known c.if-carried-ne0.false in

@@ -1,17 +1,13 @@
 -- `radiotap_list::list` meets its contract: it walks as `radiotap::count` does (`AtWord`, `Counting`), and the loops keep besides that the
 -- list holds the first of the fields met so far, as many as there is room for (`SoFar`); the inner loop for any list that it was made from.
-use Prim.Native.Nat.{◌+◌, ◌^◌, ◌<◌, min}
+use Prim.Native.Nat.{min}
 use native.Mathlib.Omega.{arith}
 use native.Mathlib.Nat.{zero-min}
 use mathlib.Core.Path.{◌≡◌, refl, sym, ap, ◌∙◌, subst}
 use lib.ListN.{get_or}
-use lib.Bits.{bit_or}
-use lib.Count.{count_trailing_zeros}
 use Rattle.octets.specs.Numbers.{number, number_at}
 use Rattle.radiotap_rules.specs.Table.{our_rules}
-use Rattle.radiotap_rules.specs.Reading.{word_bits}
 use Rattle.radiotap_rules.specs.Steps.{first_cursor}
-use Rattle.radiotap_table.specs.Says.{SpannedAs}
 use Rattle.radiotap_table.proofs.RowLaws.{row-spans}
 use Rattle.radiotap.specs.Outcomes.{summarised}
 use Rattle.radiotap.proofs.WalkLaws.{head_inside}
@@ -38,32 +34,27 @@ loop-left-init c =
 
 pub overflow_add-last-in-loop-left : goal.overflow_add-last-in-loop-left
 overflow_add-last-in-loop-left c =
-    let small : count_trailing_zeros word_bits c.loop-left.left < word_bits = let a = c.args in
-    counts_small a.taken a.s.now c.known-known.result c.loop-left.invariant.1 c.loop-left-test.true in
-    let spans : SpannedAs (count_trailing_zeros word_bits c.loop-left.left) c.span_of-span.result = row-spans our_rules c.requires.1 (count_trailing_zeros word_bits c.loop-left.left) small c.span_of-span.ensures in
-    let near : bit_or c.loop-left.last c.span_of-span.result.mask < 2 ^ 32 + 43 = let a = c.args in
+    let a = c.args in
     let w = c.loop-left.invariant.1 in
-    omega (arith, counts_near a.taken a.s.now c.known-known.result w c.loop-left-test.true spans, w.sofar.room) in
-    omega arith
+    let small = counts_small a.taken a.s.now c.known-known.result w c.loop-left-test.true in
+    let spans = row-spans our_rules c.requires.1 _ small c.span_of-span.ensures in
+    omega (arith, counts_near a.taken a.s.now c.known-known.result w c.loop-left-test.true spans, w.sofar.room)
 
 pub overflow_add-result : goal.overflow_add-result
 overflow_add-result c =
-    let small : count_trailing_zeros word_bits c.loop-left.left < word_bits = let a = c.args in
-    counts_small a.taken a.s.now c.known-known.result c.loop-left.invariant.1 c.loop-left-test.true in
-    let spans : SpannedAs (count_trailing_zeros word_bits c.loop-left.left) c.span_of-span.result = row-spans our_rules c.requires.1 (count_trailing_zeros word_bits c.loop-left.left) small c.span_of-span.ensures in
-    let near : bit_or c.loop-left.last c.span_of-span.result.mask < 2 ^ 32 + 43 = let a = c.args in
+    let a = c.args in
     let w = c.loop-left.invariant.1 in
-    omega (arith, counts_near a.taken a.s.now c.known-known.result w c.loop-left-test.true spans, w.sofar.room) in
-    omega arith
+    let small = counts_small a.taken a.s.now c.known-known.result w c.loop-left-test.true in
+    let spans = row-spans our_rules c.requires.1 _ small c.span_of-span.ensures in
+    omega (arith, counts_near a.taken a.s.now c.known-known.result w c.loop-left-test.true spans, w.sofar.room)
 
 pub returns-then-size-last : goal.returns-then-size-last
 returns-then-size-last c =
-    let holds : SoFar our_rules c.args.taken c.args.s.now c.args.room (first_cursor c.args.head) c.args.out.now c.loop-left.out c.loop-left.invariant.0 (min c.loop-left.fields c.args.room) = let a = c.args in
-    c.loop-left.invariant.2 a.out.now (filled our_rules a.taken a.s.now a.room (first_cursor a.head) c.loop-bit.invariant.2) in
-    let small : count_trailing_zeros word_bits c.loop-left.left < word_bits = let a = c.args in
-    counts_small a.taken a.s.now c.known-known.result c.loop-left.invariant.1 c.loop-left-test.true in
-    let spans : SpannedAs (count_trailing_zeros word_bits c.loop-left.left) c.span_of-span.result = row-spans our_rules c.requires.1 (count_trailing_zeros word_bits c.loop-left.left) small c.span_of-span.ensures in
     let a = c.args in
+    let holds = c.loop-left.invariant.2 a.out.now (filled our_rules a.taken a.s.now a.room (first_cursor a.head) c.loop-bit.invariant.2) in
+    let w = c.loop-left.invariant.1 in
+    let small = counts_small a.taken a.s.now c.known-known.result w c.loop-left-test.true in
+    let spans = row-spans our_rules c.requires.1 _ small c.span_of-span.ensures in
     let i = c.loop-left.invariant in
     let step = counts_past a.taken a.s.now c.known-known.result i.1 c.loop-left-test.true spans c.if-size-last.true in
     record {
@@ -73,10 +64,10 @@ returns-then-size-last c =
 
 pub loop-left-preserved : goal.loop-left-preserved
 loop-left-preserved c =
-    let small : count_trailing_zeros word_bits c.loop-left.left < word_bits = let a = c.args in
-    counts_small a.taken a.s.now c.known-known.result c.loop-left.invariant.1 c.loop-left-test.true in
-    let spans : SpannedAs (count_trailing_zeros word_bits c.loop-left.left) c.span_of-span.result = row-spans our_rules c.requires.1 (count_trailing_zeros word_bits c.loop-left.left) small c.span_of-span.ensures in
     let a = c.args in
+    let w = c.loop-left.invariant.1 in
+    let small = counts_small a.taken a.s.now c.known-known.result w c.loop-left-test.true in
+    let spans = row-spans our_rules c.requires.1 _ small c.span_of-span.ensures in
     let i = c.loop-left.invariant in
     let some = c.loop-left-test.true in
     let step = counts_field a.taken a.s.now c.known-known.result i.1 some spans c.if-size-last.false in (
@@ -93,9 +84,8 @@ loop-left-preserved c =
 
 pub returns-then-carried-ne0 : goal.returns-then-carried-ne0
 returns-then-carried-ne0 c =
-    let holds : SoFar our_rules c.args.taken c.args.s.now c.args.room (first_cursor c.args.head) c.args.out.now c.loop-left.out c.loop-left.invariant.0 (min c.loop-left.fields c.args.room) = let a = c.args in
-    c.loop-left.invariant.2 a.out.now (filled our_rules a.taken a.s.now a.room (first_cursor a.head) c.loop-bit.invariant.2) in
     let a = c.args in
+    let holds = c.loop-left.invariant.2 a.out.now (filled our_rules a.taken a.s.now a.room (first_cursor a.head) c.loop-bit.invariant.2) in
     let i = c.loop-left.invariant in
     let inside = stop_inside a.taken a.s.now c.known-known.result c.carries-carried.ensures c.if-carried-ne0.true in
     let step = counts_stop a.taken a.s.now c.known-known.result i.1 c.loop-left-test.false inside in
@@ -106,9 +96,8 @@ returns-then-carried-ne0 c =
 
 pub returns-then-word-eq0 : goal.returns-then-word-eq0
 returns-then-word-eq0 c =
-    let holds : SoFar our_rules c.args.taken c.args.s.now c.args.room (first_cursor c.args.head) c.args.out.now c.loop-left.out c.loop-left.invariant.0 (min c.loop-left.fields c.args.room) = let a = c.args in
-    c.loop-left.invariant.2 a.out.now (filled our_rules a.taken a.s.now a.room (first_cursor a.head) c.loop-bit.invariant.2) in
     let a = c.args in
+    let holds = c.loop-left.invariant.2 a.out.now (filled our_rules a.taken a.s.now a.room (first_cursor a.head) c.loop-bit.invariant.2) in
     let i = c.loop-left.invariant in
     let known = c.known-known.result in
     let past = stop-none a.taken a.s.now known c.if-carried-ne0.false in
@@ -122,40 +111,33 @@ returns-then-word-eq0 c =
 pub bounds-s-at : goal.bounds-s-at
 bounds-s-at c =
     let a = c.args in
-    let more : c.loop-bit.index + 1 < a.head.words =
-    word-followed a.taken a.s.now c.known-known.result c.loop-bit.invariant.1 c.if-word-eq0.false in
-    omega (arith, c.loop-left.invariant.1.sofar.inside)
+    let more = word-followed a.taken a.s.now c.known-known.result c.loop-bit.invariant.1 c.if-word-eq0.false in
+    omega (arith, more, c.loop-left.invariant.1.sofar.inside)
 
 pub bounds-s-at-in-loop-bit : goal.bounds-s-at-in-loop-bit
 bounds-s-at-in-loop-bit c =
     let a = c.args in
-    let more : c.loop-bit.index + 1 < a.head.words =
-    word-followed a.taken a.s.now c.known-known.result c.loop-bit.invariant.1 c.if-word-eq0.false in
-    omega (arith, c.loop-left.invariant.1.sofar.inside)
+    let more = word-followed a.taken a.s.now c.known-known.result c.loop-bit.invariant.1 c.if-word-eq0.false in
+    omega (arith, more, c.loop-left.invariant.1.sofar.inside)
 
 pub bounds-s-at-in-loop-bit-2 : goal.bounds-s-at-in-loop-bit-2
 bounds-s-at-in-loop-bit-2 c =
     let a = c.args in
-    let more : c.loop-bit.index + 1 < a.head.words =
-    word-followed a.taken a.s.now c.known-known.result c.loop-bit.invariant.1 c.if-word-eq0.false in
-    omega (arith, c.loop-left.invariant.1.sofar.inside)
+    let more = word-followed a.taken a.s.now c.known-known.result c.loop-bit.invariant.1 c.if-word-eq0.false in
+    omega (arith, more, c.loop-left.invariant.1.sofar.inside)
 
 pub bounds-s-at-in-loop-bit-3 : goal.bounds-s-at-in-loop-bit-3
 bounds-s-at-in-loop-bit-3 c =
     let a = c.args in
-    let more : c.loop-bit.index + 1 < a.head.words =
-    word-followed a.taken a.s.now c.known-known.result c.loop-bit.invariant.1 c.if-word-eq0.false in
-    omega (arith, c.loop-left.invariant.1.sofar.inside)
+    let more = word-followed a.taken a.s.now c.known-known.result c.loop-bit.invariant.1 c.if-word-eq0.false in
+    omega (arith, more, c.loop-left.invariant.1.sofar.inside)
 
 pub returns-then-unknown-ne0 : goal.returns-then-unknown-ne0
 unfolding number_at number
 returns-then-unknown-ne0 c =
-    let holds : SoFar our_rules c.args.taken c.args.s.now c.args.room (first_cursor c.args.head) c.args.out.now c.loop-left.out c.loop-left.invariant.0 (min c.loop-left.fields c.args.room) = let a = c.args in
-    c.loop-left.invariant.2 a.out.now (filled our_rules a.taken a.s.now a.room (first_cursor a.head) c.loop-bit.invariant.2) in
     let a = c.args in
-    let more : c.loop-bit.index + 1 < a.head.words =
-    word-followed a.taken a.s.now c.known-known.result c.loop-bit.invariant.1 c.if-word-eq0.false in
-    let a = c.args in
+    let holds = c.loop-left.invariant.2 a.out.now (filled our_rules a.taken a.s.now a.room (first_cursor a.head) c.loop-bit.invariant.2) in
+    let more = word-followed a.taken a.s.now c.known-known.result c.loop-bit.invariant.1 c.if-word-eq0.false in
     let w = c.loop-left.invariant.1 in
     let known = c.known-known.result in
     let past = stop-none a.taken a.s.now known c.if-carried-ne0.false in
@@ -168,12 +150,9 @@ returns-then-unknown-ne0 c =
 pub loop-bit-preserved : goal.loop-bit-preserved
 unfolding number_at number
 loop-bit-preserved c =
-    let holds : SoFar our_rules c.args.taken c.args.s.now c.args.room (first_cursor c.args.head) c.args.out.now c.loop-left.out c.loop-left.invariant.0 (min c.loop-left.fields c.args.room) = let a = c.args in
-    c.loop-left.invariant.2 a.out.now (filled our_rules a.taken a.s.now a.room (first_cursor a.head) c.loop-bit.invariant.2) in
     let a = c.args in
-    let more : c.loop-bit.index + 1 < a.head.words =
-    word-followed a.taken a.s.now c.known-known.result c.loop-bit.invariant.1 c.if-word-eq0.false in
-    let a = c.args in
+    let holds = c.loop-left.invariant.2 a.out.now (filled our_rules a.taken a.s.now a.room (first_cursor a.head) c.loop-bit.invariant.2) in
+    let more = word-followed a.taken a.s.now c.known-known.result c.loop-bit.invariant.1 c.if-word-eq0.false in
     let w = c.loop-left.invariant.1 in
     let known = c.known-known.result in
     let past = stop-none a.taken a.s.now known c.if-carried-ne0.false in

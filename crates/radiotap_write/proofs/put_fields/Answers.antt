@@ -1,7 +1,6 @@
 -- `radiotap_write::put_fields` meets its contract: the loop keeps that the fields before the bit reached are put (`Filled`), and each field put carries it on.
-use Prim.Native.Nat.{◌+◌, ◌≤◌}
+use Prim.Native.Nat.{◌+◌}
 use mathlib.Core.Path.{refl, sym, ap, ◌∙◌}
-use lib.ListN.{length}
 use native.Mathlib.Omega.{arith}
 use Rattle.octets.specs.Parts.{put}
 use Rattle.radiotap_rules.specs.Table.{our_rules}
