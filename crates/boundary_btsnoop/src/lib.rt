@@ -1,16 +1,17 @@
 // The structs of the C boundary for BTSnoop's readers, and each answer as one of them; a record's is in `boundary_record`.
-// Kind 0 is a refusal, 1 values, 2 the end, 3 "more".
+// Kind 0 is a refusal, 1 values, 2 the end, 3 "more": numbers, since C reads them. The rows are made by functions: a From is
+// as long, and its call would not name the row.
 #![tactic(auto)]
 
 ghost use Rattle.std.specs.Prelude.{◌≡◌};
-ghost use Rattle.btsnoop_header.specs.Says.{header_says};
-ghost use Rattle.btsnoop_survey.specs.Says.{survey_says, file_says};
-ghost use Rattle.btsnoop_earlier.specs.Says.{capture_says, earlier_says};
+ghost use Rattle.refusals.specs.Says.{says, says_by};
+ghost use Rattle.btsnoop_survey.specs.Says.{survey_says, accepted_of};
+ghost use Rattle.btsnoop_earlier.specs.Says.{earlier_says};
 ghost use Rattle.boundary_btsnoop.specs.Rows.{header_row, file_row, survey_row, earlier_row};
 
-use btsnoop_earlier::{Capture, EarlierAnswer};
-use btsnoop_header::HeaderAnswer;
-use btsnoop_survey::{FileAnswer, SurveyAnswer};
+use btsnoop_earlier::{CaptureRefusal, EarlierPacket};
+use btsnoop_survey::{Ending, Surveyed};
+use refusals::Refusal;
 
 // zalghimo_header
 #[repr(C)]
@@ -56,87 +57,88 @@ pub struct Earlier {
     pub size: u64,
 }
 
-pub fn header_row(answer: HeaderAnswer) -> Header
-    ensures { result ≡ header_row (header_says answer) }
+pub fn header_row(answer: Result<u32, Refusal>) -> Header
+    ensures { result ≡ header_row (says answer) }
 {
     match answer {
-        HeaderAnswer::Refused(refusal) => Header {
-            kind: 0,
-            number: refusal.number as u64,
-            place: refusal.place as u64,
-            datalink: 0,
-        },
-        HeaderAnswer::Accepted(datalink) => Header {
+        Ok(datalink) => Header {
             kind: 1,
             number: 0,
             place: 0,
             datalink: datalink as u64,
         },
+        Err(refusal) => Header {
+            kind: 0,
+            number: refusal.reason.number() as u64,
+            place: refusal.place as u64,
+            datalink: 0,
+        },
     }
 }
 
-pub fn file_row(answer: FileAnswer) -> File
-    ensures { result ≡ file_row (file_says answer) }
+pub fn file_row(answer: Result<btsnoop_survey::File, Refusal>) -> File
+    ensures { result ≡ file_row (says_by accepted_of answer) }
 {
     match answer {
-        FileAnswer::Refused(refusal) => File {
+        Ok(file) => File {
+            kind: 1,
+            number: 0,
+            place: 0,
+            datalink: file.datalink as u64,
+            records: file.records as u64,
+        },
+        Err(refusal) => File {
             kind: 0,
-            number: refusal.number as u64,
+            number: refusal.reason.number() as u64,
             place: refusal.place as u64,
             datalink: 0,
             records: 0,
         },
-        FileAnswer::Accepted { datalink, records } => File {
-            kind: 1,
-            number: 0,
-            place: 0,
-            datalink: datalink as u64,
-            records: records as u64,
-        },
     }
 }
 
-pub fn survey_row(answer: SurveyAnswer) -> Survey
+pub fn survey_row(answer: Surveyed) -> Survey
     ensures { result ≡ survey_row (survey_says answer) }
 {
-    match answer {
-        SurveyAnswer::End { count, reached } => Survey {
+    let count = answer.count as u64;
+    match answer.ending {
+        Ok(Ending::End(reached)) => Survey {
             kind: 2,
             number: 0,
             place: 0,
-            count: count as u64,
+            count,
             reached: reached as u64,
         },
-        SurveyAnswer::More { count, reached } => Survey {
+        Ok(Ending::More(reached)) => Survey {
             kind: 3,
             number: 0,
             place: 0,
-            count: count as u64,
+            count,
             reached: reached as u64,
         },
-        SurveyAnswer::Refused { count, refusal } => Survey {
+        Err(refusal) => Survey {
             kind: 0,
-            number: refusal.number as u64,
+            number: refusal.reason.number() as u64,
             place: refusal.place as u64,
-            count: count as u64,
+            count,
             reached: 0,
         },
     }
 }
 
-pub fn earlier_row(answer: EarlierAnswer) -> Earlier
+pub fn earlier_row(answer: Result<Option<EarlierPacket>, CaptureRefusal>) -> Earlier
     ensures { result ≡ earlier_row (earlier_says answer) }
 {
     match answer {
-        EarlierAnswer::Refused { capture, refusal } => Earlier {
-            kind: 0,
-            number: refusal.number as u64,
-            place: refusal.place as u64,
-            capture: capture_number(capture),
-            packet: 0,
-            size: 0,
+        Ok(Some(earlier)) => Earlier {
+            kind: 1,
+            number: 0,
+            place: 0,
+            capture: u64::from(earlier.capture),
+            packet: earlier.packet as u64,
+            size: earlier.size as u64,
         },
-        EarlierAnswer::End => Earlier {
+        Ok(None) => Earlier {
             kind: 2,
             number: 0,
             place: 0,
@@ -144,26 +146,13 @@ pub fn earlier_row(answer: EarlierAnswer) -> Earlier
             packet: 0,
             size: 0,
         },
-        EarlierAnswer::Packet {
-            capture,
-            packet,
-            size,
-        } => Earlier {
-            kind: 1,
-            number: 0,
-            place: 0,
-            capture: capture_number(capture),
-            packet: packet as u64,
-            size: size as u64,
+        Err(refused) => Earlier {
+            kind: 0,
+            number: refused.refusal.reason.number() as u64,
+            place: refused.refusal.place as u64,
+            capture: u64::from(refused.capture),
+            packet: 0,
+            size: 0,
         },
-    }
-}
-
-fn capture_number(capture: Capture) -> u64
-    ensures { result ≡ capture_says capture }
-{
-    match capture {
-        Capture::First => 1,
-        Capture::Second => 2,
     }
 }

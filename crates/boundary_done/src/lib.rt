@@ -1,7 +1,9 @@
-// The struct of the C boundary for an answer that has no values of its own. Kind 0 is a refusal, 1 done.
+// The struct of the C boundary for an answer that has no values of its own. Kind 0 is a refusal, 1 done: numbers, since C
+// reads them.
 #![tactic(auto)]
 
 ghost use Rattle.std.specs.Prelude.{◌≡◌};
+ghost use Rattle.refusals.specs.Says.{number_of};
 ghost use Rattle.boundary_done.specs.Rows.{refused_row, filled_row};
 
 use refusals::Refusal;
@@ -17,11 +19,11 @@ pub struct Done {
 
 // A refusal.
 pub fn refused(refusal: Refusal) -> Done
-    ensures { result ≡ refused_row refusal.number refusal.place }
+    ensures { result ≡ refused_row (number_of refusal.reason) refusal.place }
 {
     Done {
         kind: 0,
-        number: refusal.number as u64,
+        number: refusal.reason.number() as u64,
         place: refusal.place as u64,
     }
 }

@@ -1,19 +1,17 @@
 -- The C boundary of the LE pseudo-header: the struct that the reader's answer is returned as, field by field. Kind 0 is a
 -- refusal, 1 values; a field that the kind has no value for is 0.
-use Rattle.std.specs.Prelude.{ℕ, ◌+◌, ◌*◌, Bool, true, false, ℤ, pos}
+use Rattle.std.specs.Prelude.{ℕ, ◌+◌, ◌*◌, ℤ, pos}
 use Rattle.refusals.specs.Refusals.{Answer, refused, given}
+use Rattle.pseudo_header.specs.Flags as Flags
+use Rattle.pseudo_header.specs.Flags.{bit_of}
 use Rattle.le_rules.specs.declared.Values.{Values}
 use Rattle.le_rules.specs.Flags.{Dependent, auxiliary, mic, Told}
 use Rattle.le_rules.specs.Reading.{header_length, Header}
 use Rattle.boundary_le.specs.declared.Le.{Le}
 
-abbrev pub bit_of : Bool → ℕ
-bit_of true = 1
-bit_of false = 0
-
 -- what is known: bit 0 the signal, 1 the noise, 2 the reference address, 3 the offences
 abbrev pub known_bits : Told → ℕ
-known_bits t = bit_of t.signal + 2 * bit_of t.noise + 4 * bit_of t.reference + 8 * bit_of t.offences
+known_bits t = Flags.known_bits t.signal t.noise t.reference t.offences
 
 -- bits 12 and 13 of the flags
 abbrev pub dependent_number : Dependent → ℕ

@@ -1,15 +1,18 @@
 // The struct of the C boundary for the LE pseudo-header, and the reader's answer as one. Kind 0 is a refusal, 1 values.
 #![tactic(auto)]
 
-ghost use Rattle.std.specs.Prelude.{◌≡◌, ◌≤◌};
+ghost use Rattle.std.specs.Prelude.{◌≡◌};
 ghost use Rattle.refusals.specs.Refusals.{given};
-ghost use Rattle.le_flags.specs.Says.{pdu_type_number, phy_number, auxiliary_number, dependent_says, knowledge_says, told_says};
-ghost use Rattle.le_header.specs.Says.{le_says};
-ghost use Rattle.boundary_le.specs.Rows.{bit_of, known_bits, dependent_number, le_row};
+ghost use Rattle.refusals.specs.Says.{says_by};
+ghost use Rattle.le_flags.specs.Says.{dependent_says, told_says};
+ghost use Rattle.le_header.specs.Says.{header_of};
+ghost use Rattle.boundary_le.specs.Rows.{known_bits, dependent_number, le_row};
 
-use le_flags::{AuxiliaryKind, Dependent, Knowledge, PduType, Phy, Told};
-use le_header::LeAnswer;
-use le_rules::{HEADER_LENGTH, Values};
+use le_flags::{Dependent, Told};
+use le_header::Header;
+use le_rules::HEADER_LENGTH;
+use refusals::Refusal;
+use twos_complement::TwosComplement;
 
 // zalghimo_le
 #[repr(C)]
@@ -31,13 +34,13 @@ pub struct Le {
     pub packet: u64,
 }
 
-pub fn row(answer: LeAnswer) -> Le
-    ensures { result ≡ le_row (le_says answer) }
+pub fn row(answer: Result<Header, Refusal>) -> Le
+    ensures { result ≡ le_row (says_by header_of answer) }
 {
     match answer {
-        LeAnswer::Refused(refusal) => Le {
+        Err(refusal) => Le {
             kind: 0,
-            number: refusal.number as u64,
+            number: refusal.reason.number() as u64,
             place: refusal.place as u64,
             channel: 0,
             signal: 0,
@@ -51,30 +54,29 @@ pub fn row(answer: LeAnswer) -> Le
             dependent: 0,
             packet: 0,
         },
-        LeAnswer::Read { values, told } => read_row(values, told),
+        Ok(header) => read_row(header),
     }
 }
 
-fn read_row(values: Values, told: Told) -> Le
-    ensures { result ≡ le_row (given (record { values = values; told = told_says told })) }
+fn read_row(header: Header) -> Le
+    ensures { result ≡ le_row (given (header_of header)) }
 {
-    let pdu = told.pdu;
-    let phy = told.phy;
-    let dependent = told.dependent;
+    let values = header.values;
+    let told = header.told;
     Le {
         kind: 1,
         number: 0,
         place: 0,
         channel: values.channel as u64,
-        signal: twos_complement::wide(values.signal),
-        noise: twos_complement::wide(values.noise),
+        signal: values.signal.wide(),
+        noise: values.noise.wide(),
         offences: values.offences as u64,
         reference: values.reference as u64,
         flags: values.flags as u64,
         known: known_bits(told),
-        pdu: pdu_number(pdu),
-        phy: phy_number(phy),
-        dependent: dependent_number(dependent),
+        pdu: told.pdu as u64,
+        phy: told.phy as u64,
+        dependent: dependent_number(told.dependent),
         packet: HEADER_LENGTH as u64,
     }
 }
@@ -83,46 +85,7 @@ fn read_row(values: Values, told: Told) -> Le
 fn known_bits(told: Told) -> u64
     ensures { result ≡ known_bits (told_says told) }
 {
-    let signal = told.signal;
-    let noise = told.noise;
-    let reference = told.reference;
-    let offences = told.offences;
-    known_bit(signal) + 2 * known_bit(noise) + 4 * known_bit(reference) + 8 * known_bit(offences)
-}
-
-fn known_bit(knowledge: Knowledge) -> u64
-    ensures { (result ≡ bit_of (knowledge_says knowledge)) × (result ≤ 1) }
-{
-    match knowledge {
-        Knowledge::Known => 1,
-        Knowledge::Unknown => 0,
-    }
-}
-
-fn pdu_number(pdu: PduType) -> u64
-    ensures { result ≡ pdu_type_number pdu }
-{
-    match pdu {
-        PduType::AdvertisingOrData => 0,
-        PduType::AuxiliaryAdvertising => 1,
-        PduType::DataMasterToSlave => 2,
-        PduType::DataSlaveToMaster => 3,
-        PduType::ConnectedIsochronousMasterToSlave => 4,
-        PduType::ConnectedIsochronousSlaveToMaster => 5,
-        PduType::BroadcastIsochronous => 6,
-        PduType::Reserved => 7,
-    }
-}
-
-fn phy_number(phy: Phy) -> u64
-    ensures { result ≡ phy_number phy }
-{
-    match phy {
-        Phy::Le1M => 0,
-        Phy::Le2M => 1,
-        Phy::LeCoded => 2,
-        Phy::Reserved => 3,
-    }
+    pseudo_header::known_bits(told.signal, told.noise, told.reference, told.offences)
 }
 
 // Flags bits 12 and 13 as one number.
@@ -130,24 +93,7 @@ fn dependent_number(dependent: Dependent) -> u64
     ensures { result ≡ dependent_number (dependent_says dependent) }
 {
     match dependent {
-        Dependent::Auxiliary(kind) => kind_number(kind),
-        Dependent::Mic { checked, passed } => bit(checked) + 2 * bit(passed),
-    }
-}
-
-fn bit(set: bool) -> u64
-    ensures { (result ≡ bit_of set) × (result ≤ 1) }
-{
-    if set { 1 } else { 0 }
-}
-
-fn kind_number(kind: AuxiliaryKind) -> u64
-    ensures { result ≡ auxiliary_number kind }
-{
-    match kind {
-        AuxiliaryKind::AuxAdvInd => 0,
-        AuxiliaryKind::AuxChainInd => 1,
-        AuxiliaryKind::AuxSyncInd => 2,
-        AuxiliaryKind::AuxScanRsp => 3,
+        Dependent::Auxiliary(kind) => kind as u64,
+        Dependent::Mic { checked, passed } => checked as u64 + 2 * (passed as u64),
     }
 }

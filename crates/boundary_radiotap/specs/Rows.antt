@@ -1,7 +1,8 @@
 -- The C boundary: the struct that each radiotap answer is returned as, field by field. Kind 0 is a refusal, 1 values, 2
 -- the end, 4 read and stopped at a named bit; a field that the kind has no value for is 0.
-use Rattle.std.specs.Prelude.{ℕ, ◌≡◌, List, length}
+use Rattle.std.specs.Prelude.{ℕ, ◌≡◌, List, length, Result}
 use Rattle.refusals.specs.Refusals.{Answer, refused, given}
+use Rattle.refusals.specs.declared.Refusal.{Refusal}
 use Rattle.radiotap_rules.specs.Reading.{Ending, ended, stopped, refused_field, the_field, no_field}
 use Rattle.radiotap_rules.specs.Reading.{FieldAnswer as FieldOf}
 use Rattle.radiotap_rules.specs.Answers.{Summary, no_word, the_word}
@@ -61,5 +62,5 @@ field_row (the_field f) =
     record { kind = 1; number = 0; place = 0; word = f.word; bit = f.bit; start = f.place; size = length f.octets }
 
 -- the row of a field reader's answer, whatever the input, where the field's size is the number of its octets
-abbrev pub FieldRow : FieldAnswer → Field → Type 0
+abbrev pub FieldRow : Result FieldAnswer Refusal → Field → Type 0
 FieldRow answer r = (s : List ℕ) → FieldSized s answer → r ≡ field_row (field_says s answer)

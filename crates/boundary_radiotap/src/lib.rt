@@ -6,7 +6,7 @@ pub mod rows;
 
 // zalghimo_radiotap
 #[repr(C)]
-#[derive(Clone, Copy)]
+#[derive(Clone, Copy, Default)]
 pub struct Radiotap {
     pub kind: u64,
     pub number: u64,
@@ -21,7 +21,7 @@ pub struct Radiotap {
 
 // zalghimo_word
 #[repr(C)]
-#[derive(Clone, Copy)]
+#[derive(Clone, Copy, Default)]
 pub struct Word {
     pub kind: u64,
     pub number: u64,
@@ -31,7 +31,7 @@ pub struct Word {
 
 // zalghimo_field
 #[repr(C)]
-#[derive(Clone, Copy)]
+#[derive(Clone, Copy, Default)]
 pub struct Field {
     pub kind: u64,
     pub number: u64,

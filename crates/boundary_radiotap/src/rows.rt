@@ -1,140 +1,92 @@
 // The answers of the radiotap readers as structs of the C boundary.
+// Functions and no `From`, as in the other crates of the boundary: a caller would name the struct just so, and the
+// promise would stand as `from_gives`, in place of a clause.
 ghost use Rattle.std.specs.Prelude.{◌≡◌};
-ghost use Rattle.radiotap_head.specs.Says.{word_says};
-ghost use Rattle.radiotap.specs.Says.{read_says};
-ghost use Rattle.boundary_radiotap.specs.Rows.{shown_row, radiotap_row, word_row, FieldRow};
+ghost use Rattle.refusals.specs.Says.{says_by};
+ghost use Rattle.radiotap_head.specs.Says.{word_of};
+ghost use Rattle.radiotap.specs.Says.{summary_of};
+ghost use Rattle.boundary_radiotap.specs.Rows.{radiotap_row, word_row, FieldRow};
 
 use crate::{Field, Radiotap, Word};
-use radiotap::ReadAnswer;
+use radiotap::Reading;
 use radiotap_field::FieldAnswer;
-use radiotap_head::WordAnswer;
+use refusals::Refusal;
 
-pub fn radiotap(answer: ReadAnswer) -> Radiotap
-    ensures { result ≡ radiotap_row (read_says answer) }
+pub fn radiotap(answer: Result<Reading, Refusal>) -> Radiotap
+    ensures { result ≡ radiotap_row (says_by summary_of answer) }
 {
     match answer {
-        ReadAnswer::Refused(refusal) => Radiotap {
-            kind: 0,
-            number: refusal.number as u64,
+        Err(refusal) => Radiotap {
+            number: refusal.reason.number() as u64,
             place: refusal.place as u64,
-            fields: 0,
-            frame: 0,
-            word: 0,
-            bit: 0,
-            pad: 0,
-            words: 0,
+            ..Radiotap::default()
         },
-        ReadAnswer::Ended {
-            fields,
-            frame,
-            pad,
-            words,
-        } => shown(1, fields, frame, 0, 0, pad, words),
-        ReadAnswer::Stopped {
-            fields,
-            frame,
-            pad,
-            words,
-            word,
-            bit,
-        } => shown(4, fields, frame, word, bit, pad, words),
+        Ok(reading) => {
+            let (kind, word, bit) = match reading.stop {
+                None => (1, 0, 0),
+                Some(stop) => (4, stop.word as u64, stop.bit as u64),
+            };
+            Radiotap {
+                kind,
+                fields: reading.fields as u64,
+                frame: reading.frame as u64,
+                word,
+                bit,
+                pad: reading.pad as u64,
+                words: reading.words as u64,
+                ..Radiotap::default()
+            }
+        }
     }
 }
 
-// The row of a header that is read.
-fn shown(
-    kind: u64,
-    fields: usize,
-    frame: usize,
-    word: u32,
-    bit: u32,
-    pad: u8,
-    words: u8,
-) -> Radiotap
-    ensures { result ≡ shown_row kind fields frame word bit pad words }
-{
-    Radiotap {
-        kind,
-        number: 0,
-        place: 0,
-        fields: fields as u64,
-        frame: frame as u64,
-        word: word as u64,
-        bit: bit as u64,
-        pad: pad as u64,
-        words: words as u64,
-    }
-}
-
-pub fn word(answer: WordAnswer) -> Word
-    ensures { result ≡ word_row (word_says answer) }
+pub fn word(answer: Result<Option<u32>, Refusal>) -> Word
+    ensures { result ≡ word_row (says_by word_of answer) }
 {
     match answer {
-        WordAnswer::Refused(refusal) => Word {
-            kind: 0,
-            number: refusal.number as u64,
+        Err(refusal) => Word {
+            number: refusal.reason.number() as u64,
             place: refusal.place as u64,
-            value: 0,
+            ..Word::default()
         },
-        WordAnswer::End => Word {
+        Ok(None) => Word {
             kind: 2,
-            number: 0,
-            place: 0,
-            value: 0,
+            ..Word::default()
         },
-        WordAnswer::Word(value) => Word {
+        Ok(Some(value)) => Word {
             kind: 1,
-            number: 0,
-            place: 0,
             value: value as u64,
+            ..Word::default()
         },
     }
 }
 
-pub fn field(answer: FieldAnswer) -> Field
+pub fn field(answer: Result<FieldAnswer, Refusal>) -> Field
     ensures { FieldRow answer result }
 {
     match answer {
-        FieldAnswer::Refused(refusal) => Field {
-            kind: 0,
-            number: refusal.number as u64,
+        Err(refusal) => Field {
+            number: refusal.reason.number() as u64,
             place: refusal.place as u64,
-            word: 0,
-            bit: 0,
-            start: 0,
-            size: 0,
+            ..Field::default()
         },
-        FieldAnswer::End => Field {
+        Ok(FieldAnswer::End) => Field {
             kind: 2,
-            number: 0,
-            place: 0,
-            word: 0,
-            bit: 0,
-            start: 0,
-            size: 0,
+            ..Field::default()
         },
-        FieldAnswer::Stop { word, bit } => Field {
+        Ok(FieldAnswer::Stop(stop)) => Field {
             kind: 4,
-            number: 0,
-            place: 0,
-            word: word as u64,
-            bit: bit as u64,
-            start: 0,
-            size: 0,
+            word: stop.word as u64,
+            bit: stop.bit as u64,
+            ..Field::default()
         },
-        FieldAnswer::Field {
-            word,
-            bit,
-            start,
-            size,
-        } => Field {
+        Ok(FieldAnswer::Field(field)) => Field {
             kind: 1,
-            number: 0,
-            place: 0,
-            word: word as u64,
-            bit: bit as u64,
-            start: start as u64,
-            size: size as u64,
+            word: field.word as u64,
+            bit: field.bit as u64,
+            start: field.start as u64,
+            size: field.size as u64,
+            ..Field::default()
         },
     }
 }

@@ -1,14 +1,17 @@
 // Reading one BTSnoop record at a place straight into its struct of the C boundary: the answer is written once. Kind 0 is
-// a refusal, 1 values, 2 the end.
+// a refusal, 1 values, 2 the end. `btsnoop_record` makes the same tests: its answer made into this struct took 5.5 times
+// plain Rust, where the aim is 2.0 (docs/DECISIONS.md, "Speed").
 #![tactic(auto)]
 
 ghost use Rattle.std.specs.Prelude.{◌≡◌, ◌+◌, ◌≤◌, length};
 ghost use Rattle.refusals.specs.Refusals.{refused as Refused, given};
+ghost use Rattle.refusals.specs.Says.{number_of};
 ghost use Rattle.btsnoop_rules.specs.Record.{record_length, numbers_at, end as End, whole as Whole, record_judged, record_at};
 ghost use Rattle.boundary_record.specs.Rows.{record_row};
 
 use btsnoop_rules::{HEADER_LENGTH, RECORD_LENGTH};
-use number_at::be32;
+use numbers::Number;
+use refusals::Reason;
 
 // zalghimo_record
 #[repr(C)]
@@ -30,18 +33,15 @@ pub struct Record {
 pub fn read(s: &[u8], place: usize) -> Record
     ensures { result ≡ record_row (record_at s.now place) }
 {
-    if place < HEADER_LENGTH {
-        return refused(refusals::RECORD_PLACE, place);
-    }
-    if s.len() < place {
-        return refused(refusals::RECORD_PLACE, place);
+    if place < HEADER_LENGTH || s.len() < place {
+        return refused(Reason::RecordPlace, place);
     }
     if place == s.len() {
         return end();
     }
     let left = s.len() - place;
     if left < RECORD_LENGTH {
-        return refused(refusals::SHORT_RECORD, place);
+        return refused(Reason::ShortRecord, place);
     }
     judged(s, place, left)
 }
@@ -53,13 +53,13 @@ fn judged(s: &[u8], place: usize, left: usize) -> Record
     requires record_length_le_left { record_length ≤ left }
     ensures { result ≡ record_row (record_judged left place (numbers_at s.now place)) }
 {
-    let original = be32(s, place);
-    let included = be32(s, place + 4);
+    let original = u32::be_at(s, place);
+    let included = u32::be_at(s, place + 4);
     if original < included {
-        return refused(refusals::INCLUDED_LENGTH, place + 4);
+        return refused(Reason::IncludedAboveOriginal, place + 4);
     }
     if left - RECORD_LENGTH < included as usize {
-        return refused(refusals::SHORT_PACKET, place);
+        return refused(Reason::ShortPacket, place);
     }
     whole(s, place, original, included)
 }
@@ -78,9 +78,9 @@ fn whole(s: &[u8], place: usize, original: u32, included: u32) -> Record
         place: 0,
         original: original as u64,
         included: included as u64,
-        flags: be32(s, place + 8) as u64,
-        drops: be32(s, place + 12) as u64,
-        time: twos_complement::signed64(be32(s, place + 16), be32(s, place + 20)),
+        flags: u32::be_at(s, place + 8) as u64,
+        drops: u32::be_at(s, place + 12) as u64,
+        time: twos_complement::signed64(u32::be_at(s, place + 16), u32::be_at(s, place + 20)),
         packet: packet as u64,
         next: (packet + included as usize) as u64,
     }
@@ -105,12 +105,12 @@ fn end() -> Record
 }
 
 // A refusal.
-fn refused(number: u32, place: usize) -> Record
-    ensures { result ≡ record_row (Refused number place) }
+fn refused(reason: Reason, place: usize) -> Record
+    ensures { result ≡ record_row (Refused (number_of reason) place) }
 {
     Record {
         kind: 0,
-        number: number as u64,
+        number: reason.number() as u64,
         place: place as u64,
         original: 0,
         included: 0,

@@ -3,10 +3,10 @@
 #![tactic(auto)]
 
 ghost use Rattle.std.specs.Prelude.{◌≡◌};
-ghost use Rattle.tally.specs.Says.{outcome_says};
+ghost use Rattle.refusals.specs.Says.{says};
 ghost use Rattle.boundary_tally.specs.Rows.{tally_of, numbers_of, done_row, tally_after};
 
-use tally::{Outcome, TallyAnswer};
+use refusals::Refusal;
 use tally_rules::Tally;
 
 // zalghimo_done
@@ -19,23 +19,24 @@ pub struct Done {
 }
 
 // What an update answers.
-pub fn row(outcome: Outcome) -> Done
-    ensures { result ≡ done_row (outcome_says outcome) }
+pub fn row(update: Result<Tally, Refusal>) -> Done
+    ensures { result ≡ done_row (says update) }
 {
-    let answer = outcome.answer;
-    match answer {
-        TallyAnswer::Refused(refusal) => Done {
-            kind: 0,
-            number: refusal.number as u64,
-            place: refusal.place as u64,
-        },
-        TallyAnswer::Done => Done {
+    match update {
+        Ok(_) => Done {
             kind: 1,
             number: 0,
             place: 0,
         },
+        Err(refusal) => Done {
+            kind: 0,
+            number: refusal.reason.number() as u64,
+            place: refusal.place as u64,
+        },
     }
 }
+
+// This and the next are no From: neither Tally nor an array is a type of this crate.
 
 // The tally of nine numbers, the last drop number taken modulo 2^32.
 pub fn tally_of(numbers: [u64; 9]) -> Tally
@@ -71,15 +72,11 @@ pub fn numbers_of(tally: Tally) -> [u64; 9]
     ]
 }
 
-// Puts the tally of an update's outcome into the lent numbers; a refusal leaves them as found.
-pub fn put(numbers: &mut [u64; 9], outcome: Outcome)
-    ensures { numbers.new ≡ tally_after numbers.old (outcome_says outcome) }
+// Puts the tally that an update gives into the lent numbers; a refusal leaves them as found.
+pub fn put(numbers: &mut [u64; 9], update: Result<Tally, Refusal>)
+    ensures { numbers.new ≡ tally_after numbers.old (says update) }
 {
-    let answer = outcome.answer;
-    match answer {
-        TallyAnswer::Refused(_) => {}
-        TallyAnswer::Done => {
-            *numbers = numbers_of(outcome.tally);
-        }
+    if let Ok(tally) = update {
+        *numbers = numbers_of(tally);
     }
 }

@@ -2,10 +2,10 @@
 #![tactic(auto)]
 
 ghost use Rattle.std.specs.Prelude.{◌≡◌};
-ghost use Rattle.capture_time.specs.Answers.{time_says, field_says};
+ghost use Rattle.refusals.specs.Says.{says};
 ghost use Rattle.boundary_time.specs.Rows.{time_row, time_field_row};
 
-use capture_time::{FieldAnswer, TimeAnswer};
+use refusals::Refusal;
 
 // zalghimo_time
 #[repr(C)]
@@ -28,41 +28,38 @@ pub struct TimeField {
     pub field: i64,
 }
 
-pub fn time_row(answer: TimeAnswer) -> Time
-    ensures { result ≡ time_row (time_says answer) }
+pub fn time_row(answer: Result<capture_time::Time, Refusal>) -> Time
+    ensures { result ≡ time_row (says answer) }
 {
     match answer {
-        TimeAnswer::Refused(refusal) => Time {
+        Err(refusal) => Time {
             kind: 0,
-            number: refusal.number as u64,
+            number: refusal.reason.number() as u64,
             place: refusal.place as u64,
             seconds: 0,
             microseconds: 0,
         },
-        TimeAnswer::Time {
-            seconds,
-            microseconds,
-        } => Time {
+        Ok(time) => Time {
             kind: 1,
             number: 0,
             place: 0,
-            seconds,
-            microseconds: microseconds as u64,
+            seconds: time.seconds,
+            microseconds: time.microseconds as u64,
         },
     }
 }
 
-pub fn field_row(answer: FieldAnswer) -> TimeField
-    ensures { result ≡ time_field_row (field_says answer) }
+pub fn field_row(answer: Result<i64, Refusal>) -> TimeField
+    ensures { result ≡ time_field_row (says answer) }
 {
     match answer {
-        FieldAnswer::Refused(refusal) => TimeField {
+        Err(refusal) => TimeField {
             kind: 0,
-            number: refusal.number as u64,
+            number: refusal.reason.number() as u64,
             place: refusal.place as u64,
             field: 0,
         },
-        FieldAnswer::Field(field) => TimeField {
+        Ok(field) => TimeField {
             kind: 1,
             number: 0,
             place: 0,

@@ -1,11 +1,10 @@
--- What the reader's answer says in the request's terms, case by case.
+-- What a header of the code says in the request's terms.
 use Rattle.std.specs.Prelude.{true}
-use Rattle.refusals.specs.Refusals.{Answer, refused, given}
 use Rattle.pseudo_header.specs.Says.{knowledge_says}
 use Rattle.bredr_rules.specs.Flags.{Known}
-use Rattle.bredr_rules.specs.Reading.{Header}
+use Rattle.bredr_rules.specs.Reading as Reading
 use Rattle.bredr_header.specs.declared.Told.{Told}
-use Rattle.bredr_header.specs.declared.BredrAnswer.{BredrAnswer}
+use Rattle.bredr_header.specs.declared.Header.{Header}
 
 -- what is told of four values is told of them; every other is known
 abbrev pub told_says : Told → Known
@@ -25,7 +24,6 @@ told_says t =
       flags = true;
     }
 
--- the reader: the refusal, or the values, each as known or not
-abbrev pub bredr_says : BredrAnswer → Answer Header
-bredr_says (BredrAnswer.Refused r) = refused r.number r.place
-bredr_says (BredrAnswer.Read values told) = given (record { values = values; known = told_says told })
+-- its values, each as known or not
+abbrev pub header_of : Header → Reading.Header
+header_of h = record { values = h.values; known = told_says h.told }

@@ -4,13 +4,11 @@
 
 // The length of the pseudo-header.
 pub const HEADER_LENGTH: usize = 22;
-// The refusal of an RF channel above the highest.
-pub const RF_CHANNEL: u32 = 8;
 // The highest RF channel.
 pub const LAST_CHANNEL: u8 = 78;
 
 // The values in a pseudo-header's 22 octets.
-#[derive(Clone, Copy)]
+#[derive(Clone, Copy, Debug, PartialEq, Eq)]
 pub struct Values {
     pub rf_channel: u8,
     pub signal: i8,

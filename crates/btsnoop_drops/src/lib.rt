@@ -5,8 +5,9 @@ ghost use Rattle.std.specs.Prelude.{◌≡◌};
 ghost use Rattle.btsnoop_rules.specs.Drops.{drops_between};
 
 // How many packets were lost between two records: the later cumulative drops less the earlier, modulo 2^32.
+#[tactic(auto, unfolding(btsnoop_rules::specs::Drops::drops_between))]
 pub fn between(earlier: u32, later: u32) -> u32
     ensures { result ≡ drops_between earlier later }
 {
-    std::num::wrapping_sub_u32(later, earlier)
+    later.wrapping_sub(earlier)
 }

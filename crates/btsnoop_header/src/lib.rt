@@ -2,11 +2,12 @@
 #![tactic(auto)]
 
 ghost use Rattle.std.specs.Prelude.{◌≡◌};
+ghost use Rattle.refusals.specs.Says.{says};
 ghost use Rattle.btsnoop_rules.specs.Header.{header_at, header_judged, served as served_code};
-ghost use Rattle.btsnoop_header.specs.Says.{header_says};
 
 use btsnoop_rules::HEADER_LENGTH;
-use refusals::Refusal;
+use numbers::Number;
+use refusals::{Reason, Refusal};
 
 // The identification octets, as one big-endian number.
 const IDENTIFICATION_OCTETS: u64 = 0x6274_736E_6F6F_7000;
@@ -17,50 +18,31 @@ const FIRST_DATALINK: u32 = 1001;
 
 const LAST_DATALINK: u32 = 1004;
 
-// What reading a file header answers: the refusal, or the datalink code.
-#[derive(Clone, Copy)]
-pub enum HeaderAnswer {
-    Refused(Refusal),
-    Accepted(u32),
-}
-
 // Reads the file header at the start of an input.
-pub fn read(s: &[u8]) -> HeaderAnswer
-    ensures { header_says result ≡ header_at s.now }
+pub fn read(s: &[u8]) -> Result<u32, Refusal>
+    ensures { says result ≡ header_at s.now }
 {
     if s.len() < HEADER_LENGTH {
-        return HeaderAnswer::Refused(Refusal {
-            number: refusals::SHORT_HEADER,
-            place: s.len(),
-        });
+        return Err(Reason::ShortHeader.at(s.len()));
     }
     judge(s)
 }
 
 // Judges the 16 octets of a file header.
-fn judge(s: &[u8]) -> HeaderAnswer
-    ensures { header_says result ≡ header_judged s.now }
+fn judge(s: &[u8]) -> Result<u32, Refusal>
+    ensures { says result ≡ header_judged s.now }
 {
-    if number_at::be64(s, 0) != IDENTIFICATION_OCTETS {
-        return HeaderAnswer::Refused(Refusal {
-            number: refusals::IDENTIFICATION,
-            place: 0,
-        });
+    if u64::be_at(s, 0) != IDENTIFICATION_OCTETS {
+        return Err(Reason::Identification.at(0));
     }
-    if number_at::be32(s, 8) != VERSION_NUMBER {
-        return HeaderAnswer::Refused(Refusal {
-            number: refusals::VERSION,
-            place: 8,
-        });
+    if u32::be_at(s, 8) != VERSION_NUMBER {
+        return Err(Reason::Version.at(8));
     }
-    let datalink = number_at::be32(s, 12);
+    let datalink = u32::be_at(s, 12);
     if served(datalink) {
-        HeaderAnswer::Accepted(datalink)
+        Ok(datalink)
     } else {
-        HeaderAnswer::Refused(Refusal {
-            number: refusals::DATALINK,
-            place: 12,
-        })
+        Err(Reason::Datalink.at(12))
     }
 }
 
@@ -68,8 +50,5 @@ fn judge(s: &[u8]) -> HeaderAnswer
 pub fn served(datalink: u32) -> bool
     ensures { result ≡ served_code datalink }
 {
-    if datalink < FIRST_DATALINK {
-        return false;
-    }
-    datalink <= LAST_DATALINK
+    (FIRST_DATALINK..=LAST_DATALINK).contains(&datalink)
 }

@@ -4,32 +4,29 @@
 ghost use Rattle.std.specs.Prelude.{length, ◌≡◌};
 ghost use Rattle.std.specs.Io.{ReadsAtMost};
 
-use refusals::WriteAnswer;
+use listing::MOST_LISTED;
 use std::io;
 use std::io::{Read, Write};
 
+// One octet more than is listed, so that a longer input is known by it.
+const INPUT_ROOM: usize = 65537;
+
 fn main(rt: HostRuntime) -> io::Result<()> {
-    let mut input = input_room();
+    let mut input = room::<INPUT_ROOM>();
     let read = read_full(&mut rt.stdin(), &mut input)?;
-    let mut output = output_room();
+    let mut output = room::<MOST_LISTED>();
     list(&mut rt.stdout(), &mut output, &input[..read])
 }
 
-// One octet more than is listed, so that a longer input is known by it.
-fn input_room() -> [u8; 65537]
-    ensures { 65537 ≡ length result }
+// Room for so many octets. The `ensures` gives only its length, which lending it needs.
+fn room<const N: usize>() -> [u8; N]
+    ensures { N ≡ length result }
 {
-    [0; 65537]
+    [0; N]
 }
 
-// Room for every listing: listing::MOST_LISTED octets.
-fn output_room() -> [u8; 524288]
-    ensures { 524288 ≡ length result }
-{
-    [0; 524288]
-}
-
-// Reads until the room is full or the input ends, and tells how many octets it put at the start of the room.
+// Reads until the room is full or the input ends, and tells how many octets it put at the start of the room. std's
+// read_to_end would need a Vec, and the program keeps to fixed memory; read_exact tells nothing of a shorter input.
 fn read_full(from: &mut impl Read, room: &mut [u8]) -> io::Result<usize>
     ensures { ReadsAtMost result room.new }
 {
@@ -47,7 +44,7 @@ fn read_full(from: &mut impl Read, room: &mut [u8]) -> io::Result<usize>
 // Writes the listing of an input. It always has room: no listing is longer than the output.
 fn list(to: &mut impl Write, output: &mut [u8], input: &[u8]) -> io::Result<()> {
     match listing::write(output, 0, input) {
-        WriteAnswer::Refused(_) => Ok(()),
-        WriteAnswer::Written(size) => to.write_all(octets::part(output, 0, size)),
+        Ok(size) => to.write_all(octets::part(output, 0, size)),
+        Err(_) => Ok(()),
     }
 }

@@ -1,48 +1,50 @@
-// The numbers in a record's 24 octets, held apart from an input.
+// The numbers in a record's 24 octets, held apart from an input. Each is one expression of the trait's reader; a function
+// of the place beside them would be no shorter.
 #![tactic(auto)]
 
 ghost use Rattle.std.specs.Prelude.{◌≡◌};
 ghost use Rattle.btsnoop_rules.specs.Record.{numbers_at};
 
 use btsnoop_rules::Numbers;
-use number_at::join32;
+use numbers::Number;
 
 // The original length.
+#[tactic(auto, unfolding(btsnoop_rules::specs::Record::numbers_at))]
 pub fn original(held: &[u8; 24]) -> u32
     ensures { result ≡ (numbers_at held.now 0).original }
 {
-    join32(held[0], held[1], held[2], held[3])
+    u32::be_at(held, 0)
 }
 
 // The included length.
+#[tactic(auto, unfolding(btsnoop_rules::specs::Record::numbers_at))]
 pub fn included(held: &[u8; 24]) -> u32
     ensures { result ≡ (numbers_at held.now 0).included }
 {
-    join32(held[4], held[5], held[6], held[7])
+    u32::be_at(held, 4)
 }
 
 // The flags.
+#[tactic(auto, unfolding(btsnoop_rules::specs::Record::numbers_at))]
 fn flags(held: &[u8; 24]) -> u32
     ensures { result ≡ (numbers_at held.now 0).flags }
 {
-    join32(held[8], held[9], held[10], held[11])
+    u32::be_at(held, 8)
 }
 
 // The cumulative drops.
+#[tactic(auto, unfolding(btsnoop_rules::specs::Record::numbers_at))]
 fn drops(held: &[u8; 24]) -> u32
     ensures { result ≡ (numbers_at held.now 0).drops }
 {
-    join32(held[12], held[13], held[14], held[15])
+    u32::be_at(held, 12)
 }
 
 // The time.
 fn time(held: &[u8; 24]) -> i64
     ensures { result ≡ (numbers_at held.now 0).time }
 {
-    twos_complement::signed64(
-        join32(held[16], held[17], held[18], held[19]),
-        join32(held[20], held[21], held[22], held[23]),
-    )
+    twos_complement::signed64(u32::be_at(held, 16), u32::be_at(held, 20))
 }
 
 // All of them.

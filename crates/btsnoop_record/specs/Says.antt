@@ -1,10 +1,13 @@
 -- What the record reader's answer says in document 01's terms, case by case.
-use Rattle.refusals.specs.Refusals.{Answer, refused, given}
+use Rattle.std.specs.Prelude.{Option, Some, None}
 use Rattle.btsnoop_rules.specs.Record.{Found, end, whole}
-use Rattle.btsnoop_record.specs.declared.RecordAnswer.{RecordAnswer}
+use Rattle.btsnoop_record.specs.declared.Record.{Record}
 
--- the refusal, the end, or a whole record
-abbrev pub record_says : RecordAnswer → Answer Found
-record_says (RecordAnswer.Refused r) = refused r.number r.place
-record_says RecordAnswer.End = given end
-record_says (RecordAnswer.Whole numbers packet next) = given (whole numbers packet next)
+-- a whole record
+abbrev pub whole_of : Record → Found
+whole_of r = whole r.numbers r.packet r.next
+
+-- the end, or a whole record
+abbrev pub found_of : Option Record → Found
+found_of None = end
+found_of (Some r) = whole_of r

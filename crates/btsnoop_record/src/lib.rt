@@ -2,107 +2,91 @@
 #![tactic(auto)]
 
 ghost use Rattle.std.specs.Prelude.{◌≡◌, ◌+◌, ◌^◌, ◌<◌, ◌≤◌, length};
-ghost use Rattle.refusals.specs.Refusals.{refused as Refused};
+ghost use Rattle.refusals.specs.Says.{says_by};
 ghost use Rattle.btsnoop_rules.specs.Record.{record_length, numbers_at, received as is_received, command as is_command, record_judged, record_at, packet_at};
-ghost use Rattle.btsnoop_record.specs.Says.{record_says};
+ghost use Rattle.btsnoop_record.specs.Says.{whole_of, found_of};
 
 use btsnoop_rules::{HEADER_LENGTH, Numbers, RECORD_LENGTH};
-use refusals::Refusal;
+use numbers::Number;
+use refusals::{Reason, Refusal};
 
-// What reading a record answers: the refusal, the input's end, or a whole record with the place of its packet and of
-// the next record.
+// A whole record: its numbers, and the places of its packet and of the next record.
 #[derive(Clone, Copy)]
-pub enum RecordAnswer {
-    Refused(Refusal),
-    End,
-    Whole {
-        numbers: Numbers,
-        packet: usize,
-        next: usize,
-    },
+pub struct Record {
+    pub numbers: Numbers,
+    pub packet: usize,
+    pub next: usize,
 }
 
-// Reads the record at a place. The file header is not judged.
-pub fn read(s: &[u8], place: usize) -> RecordAnswer
-    ensures { record_says result ≡ record_at s.now place }
+// Reads the record at a place, or nothing at the input's end. The file header is not judged.
+pub fn read(s: &[u8], place: usize) -> Result<Option<Record>, Refusal>
+    ensures { says_by found_of result ≡ record_at s.now place }
 {
-    if place < HEADER_LENGTH {
-        return refused(refusals::RECORD_PLACE, place);
-    }
-    if s.len() < place {
-        return refused(refusals::RECORD_PLACE, place);
+    if place < HEADER_LENGTH || s.len() < place {
+        return Err(Reason::RecordPlace.at(place));
     }
     if place == s.len() {
-        return RecordAnswer::End;
+        return Ok(None);
     }
     let left = s.len() - place;
     if left < RECORD_LENGTH {
-        return refused(refusals::SHORT_RECORD, place);
+        return Err(Reason::ShortRecord.at(place));
     }
-    judge(left, place, numbers(s, place))
+    Ok(Some(judge(left, place, numbers(s, place))?))
 }
 
-// The numbers in the 24 octets at a place.
+// The numbers in the 24 octets at a place. `btsnoop_numbers` reads the same from an array: one public function for both
+// would have to bound the place, and none here has a `requires`.
 fn numbers(s: &[u8], place: usize) -> Numbers
     requires { place ≤ length s.now }
     ensures { result ≡ numbers_at s.now place }
 {
     Numbers {
-        original: number_at::be32(s, place),
-        included: number_at::be32(s, place + 4),
-        flags: number_at::be32(s, place + 8),
-        drops: number_at::be32(s, place + 12),
-        time: twos_complement::signed64(
-            number_at::be32(s, place + 16),
-            number_at::be32(s, place + 20),
-        ),
+        original: u32::be_at(s, place),
+        included: u32::be_at(s, place + 4),
+        flags: u32::be_at(s, place + 8),
+        drops: u32::be_at(s, place + 12),
+        time: twos_complement::signed64(u32::be_at(s, place + 16), u32::be_at(s, place + 20)),
     }
 }
 
 // Judges a record's numbers at a place from which so many octets are left.
-fn judge(left: usize, place: usize, numbers: Numbers) -> RecordAnswer
+fn judge(left: usize, place: usize, numbers: Numbers) -> Result<Record, Refusal>
     requires left_bound { place + left < 2 ^ 64 }
     requires record_length_le_left { record_length ≤ left }
-    ensures { record_says result ≡ record_judged left place numbers }
+    ensures { says_by whole_of result ≡ record_judged left place numbers }
 {
     if numbers.original < numbers.included {
-        return refused(refusals::INCLUDED_LENGTH, place + 4);
+        return Err(Reason::IncludedAboveOriginal.at(place + 4));
     }
     let included = numbers.included as usize;
     if left - RECORD_LENGTH < included {
-        return refused(refusals::SHORT_PACKET, place);
+        return Err(Reason::ShortPacket.at(place));
     }
     let packet = place + RECORD_LENGTH;
-    RecordAnswer::Whole {
+    Ok(Record {
         numbers,
         packet,
         next: packet + included,
-    }
-}
-
-// A refusal as the record reader's answer.
-fn refused(number: u32, place: usize) -> RecordAnswer
-    ensures { record_says result ≡ Refused number place }
-{
-    RecordAnswer::Refused(Refusal { number, place })
+    })
 }
 
 // The packet of the record at a place, as a part of the input; empty where there is no whole record.
+#[tactic(auto, unfolding(btsnoop_rules::specs::Record::packet_at))]
 pub fn packet(s: &[u8], place: usize) -> &[u8]
     ensures { result.now ≡ packet_at s.now place }
 {
     match read(s, place) {
-        RecordAnswer::Refused(_) => &s[..0],
-        RecordAnswer::End => &s[..0],
-        RecordAnswer::Whole {
-            numbers,
-            packet,
-            next: _,
-        } => octets::part(s, packet, numbers.included as usize),
+        Ok(Some(record)) => octets::part(s, record.packet, record.numbers.included as usize),
+        Ok(None) => &s[..0],
+        Err(_) => &s[..0],
     }
 }
 
+// This and the next are one expression each; one function with a bit beside the flags would be no plainer.
+
 // Whether a record's packet was received (bit 0 of its flags).
+#[tactic(auto, unfolding(btsnoop_rules::specs::Record::received))]
 pub fn received(flags: u32) -> bool
     ensures { result ≡ is_received flags }
 {
@@ -110,6 +94,7 @@ pub fn received(flags: u32) -> bool
 }
 
 // Whether a record's packet is a command or an event (bit 1 of its flags).
+#[tactic(auto, unfolding(btsnoop_rules::specs::Record::command))]
 pub fn command(flags: u32) -> bool
     ensures { result ≡ is_command flags }
 {

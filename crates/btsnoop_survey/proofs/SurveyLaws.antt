@@ -92,24 +92,28 @@ module _ (s : List ℕ) (place number : ℕ) where
               ∙ ap (λ (j : ℕ). record { count = j; ending = ending rest }) (add-suc count (length (items rest)) ∙ omega arith);
         }
 
-    -- with no record left to pass: the end, or "more"
+    -- with no record left to pass, as many were counted as may be
+    all_counted : number ≤ count → count + 0 ≡ number
+    all_counted h = omega (arith, f.few)
+
+    -- then it is the end, or "more"
     finish : number ≤ count → walk (record_step s) (number - count) reached ≡ used reached (record_step s reached)
     finish h =
         let e : number - count ≡ 0 = omega arith in
         ap (λ (k : ℕ). walk (record_step s) k reached) e
 
-    pub finished : number ≤ count → reached ≡ length s → survey_at s place number ≡ record { count = count; ending = ended reached }
+    pub finished : number ≤ count → reached ≡ length s → survey_at s place number ≡ record { count = number; ending = ended reached }
     finished h e =
         let at_end : record_step s reached ≡ given Next.end = ap (record_step s) e ∙ (forward s).at_end (omega (arith, f.low)) in
         f.answer
         ∙ ap (λ (w : Walk Record). counted count (survey_of w)) (finish h ∙ ap (used reached) at_end)
-        ∙ ap (λ (k : ℕ). record { count = k; ending = ended reached }) (add-zero count)
+        ∙ ap (λ (k : ℕ). record { count = k; ending = ended reached }) (all_counted h)
 
-    pub unfinished : number ≤ count → (reached ≡ length s → ⊥) → survey_at s place number ≡ record { count = count; ending = more reached }
+    pub unfinished : number ≤ count → (reached ≡ length s → ⊥) → survey_at s place number ≡ record { count = number; ending = more reached }
     unfinished h other =
         f.answer
         ∙ ap (λ (w : Walk Record). counted count (survey_of w)) (finish h ∙ go (record_step s reached) refl)
-        ∙ ap (λ (k : ℕ). record { count = k; ending = more reached }) (add-zero count)
+        ∙ ap (λ (k : ℕ). record { count = k; ending = more reached }) (all_counted h)
       where
         go : (x : Answer (Next Record)) → record_step s reached ≡ x → used reached x ≡ stop (more reached)
         go (refused n q) e = refl

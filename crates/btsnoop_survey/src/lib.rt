@@ -2,140 +2,115 @@
 #![tactic(auto)]
 
 ghost use Rattle.std.specs.Prelude.{◌≡◌, ◌≤◌, length};
+ghost use Rattle.refusals.specs.Says.{says_by};
 ghost use Rattle.btsnoop_rules.specs.Header.{header_length};
-ghost use Rattle.btsnoop_rules.specs.File.{survey_at, file_of, file_at};
-ghost use Rattle.btsnoop_survey.specs.Says.{StepSays, survey_says, file_says};
+ghost use Rattle.btsnoop_rules.specs.Record.{record_at};
+ghost use Rattle.btsnoop_rules.specs.File.{survey_at, file_at};
+ghost use Rattle.btsnoop_survey.specs.Says.{met_of, survey_says, accepted_of};
 
-use btsnoop_header::HeaderAnswer;
 use btsnoop_rules::{HEADER_LENGTH, RECORD_LENGTH};
-use refusals::Refusal;
+use numbers::Number;
+use refusals::{Reason, Refusal};
 
-// What a survey answers: how many records it passed, and the place reached or the refusal.
+// Where a survey stopped: at the input's end, or at the place reached when its number of records is used up.
 #[derive(Clone, Copy)]
-pub enum SurveyAnswer {
-    End { count: usize, reached: usize },
-    More { count: usize, reached: usize },
-    Refused { count: usize, refusal: Refusal },
+pub enum Ending {
+    End(usize),
+    More(usize),
 }
 
-// What the check of a file answers: the refusal, or the datalink code and the number of records.
+// What a survey answers: how many records it passed, and its ending or the refusal.
 #[derive(Clone, Copy)]
-pub enum FileAnswer {
-    Refused(Refusal),
-    Accepted { datalink: u32, records: usize },
+pub struct Surveyed {
+    pub count: usize,
+    pub ending: Result<Ending, Refusal>,
+}
+
+// An accepted file: its datalink code and its number of records.
+#[derive(Clone, Copy)]
+pub struct File {
+    pub datalink: u32,
+    pub records: usize,
 }
 
 // Surveys the records from a place on, passing at most the given number of them.
-pub fn survey(s: &[u8], place: usize, number: usize) -> SurveyAnswer
+pub fn survey(s: &[u8], place: usize, number: usize) -> Surveyed
     ensures { survey_says result ≡ survey_at s.now place number }
 {
-    if place < HEADER_LENGTH {
-        return SurveyAnswer::Refused {
+    if place < HEADER_LENGTH || s.len() < place {
+        return Surveyed {
             count: 0,
-            refusal: Refusal {
-                number: refusals::RECORD_PLACE,
-                place,
-            },
-        };
-    }
-    if s.len() < place {
-        return SurveyAnswer::Refused {
-            count: 0,
-            refusal: Refusal {
-                number: refusals::RECORD_PLACE,
-                place,
-            },
+            ending: Err(Reason::RecordPlace.at(place)),
         };
     }
     let mut reached = place;
-    let mut count = 0;
-    while count < number {
+    for count in 0..number {
         match judge(s, reached) {
-            Step::Refused(refusal) => {
-                return SurveyAnswer::Refused { count, refusal };
+            Ok(Some(next)) => reached = next,
+            Ok(None) => {
+                return Surveyed {
+                    count,
+                    ending: Ok(Ending::End(reached)),
+                };
             }
-            Step::End => {
-                return SurveyAnswer::End { count, reached };
-            }
-            Step::Next(next) => {
-                reached = next;
-                count += 1;
+            Err(refusal) => {
+                return Surveyed {
+                    count,
+                    ending: Err(refusal),
+                };
             }
         }
     }
-    if reached == s.len() {
-        SurveyAnswer::End { count, reached }
+    let ending = if reached == s.len() {
+        Ending::End(reached)
     } else {
-        SurveyAnswer::More { count, reached }
+        Ending::More(reached)
+    };
+    Surveyed {
+        count: number,
+        ending: Ok(ending),
     }
 }
 
-// What a survey meets at a place: the refusal, the input's end, or a whole record and the place of the next.
-#[derive(Clone, Copy)]
-enum Step {
-    Refused(Refusal),
-    End,
-    Next(usize),
-}
-
-// Judges the record at a place by its two lengths alone; a survey needs no other number of it.
-fn judge(s: &[u8], place: usize) -> Step
+// Judges the record at a place by its two lengths alone, and answers the place of the next, or nothing at the input's
+// end. A survey needs no other number of it: by `btsnoop_record`, which makes the same tests, it would test the place anew and
+// read them all at each record.
+fn judge(s: &[u8], place: usize) -> Result<Option<usize>, Refusal>
     requires { (header_length ≤ place) × (place ≤ length s.now) }
-    ensures { StepSays s.now place result }
+    ensures { says_by (met_of s.now place) result ≡ record_at s.now place }
 {
     if place == s.len() {
-        return Step::End;
+        return Ok(None);
     }
     let left = s.len() - place;
     if left < RECORD_LENGTH {
-        return Step::Refused(Refusal {
-            number: refusals::SHORT_RECORD,
-            place,
-        });
+        return Err(Reason::ShortRecord.at(place));
     }
     // Both are widened where they are read: to do so behind the test would delay each step.
-    let included = number_at::be32(s, place + 4) as usize;
-    if (number_at::be32(s, place) as usize) < included {
-        return Step::Refused(Refusal {
-            number: refusals::INCLUDED_LENGTH,
-            place: place + 4,
-        });
+    let included = u32::be_at(s, place + 4) as usize;
+    if (u32::be_at(s, place) as usize) < included {
+        return Err(Reason::IncludedAboveOriginal.at(place + 4));
     }
     // The packet's place has two uses, so the compiler keeps it, and the step to the next record waits for one sum alone.
     let packet = place + RECORD_LENGTH;
     if s.len() - packet < included {
-        return Step::Refused(Refusal {
-            number: refusals::SHORT_PACKET,
-            place,
-        });
+        return Err(Reason::ShortPacket.at(place));
     }
-    Step::Next(packet + included)
+    Ok(Some(packet + included))
 }
 
 // Checks a whole file: accepted exactly when its header is valid and whole records fill the rest.
-pub fn check(s: &[u8]) -> FileAnswer
-    ensures { file_says result ≡ file_at s.now }
+pub fn check(s: &[u8]) -> Result<File, Refusal>
+    ensures { says_by accepted_of result ≡ file_at s.now }
 {
-    match btsnoop_header::read(s) {
-        HeaderAnswer::Refused(refusal) => FileAnswer::Refused(refusal),
-        HeaderAnswer::Accepted(datalink) => checked(datalink, survey(s, HEADER_LENGTH, s.len())),
-    }
-}
-
-// The answer of a check whose header has a datalink code and whose records were surveyed to the end. (A survey of as
-// many records as the input has octets never says "more".)
-fn checked(datalink: u32, survey: SurveyAnswer) -> FileAnswer
-    ensures { file_says result ≡ file_of datalink (survey_says survey).count (survey_says survey).ending }
-{
-    match survey {
-        SurveyAnswer::End { count, reached: _ } => FileAnswer::Accepted {
+    let datalink = btsnoop_header::read(s)?;
+    let surveyed = survey(s, HEADER_LENGTH, s.len());
+    match surveyed.ending? {
+        Ending::End(_) => Ok(File {
             datalink,
-            records: count,
-        },
-        SurveyAnswer::More { count: _, reached } => FileAnswer::Refused(Refusal {
-            number: refusals::RECORD_PLACE,
-            place: reached,
+            records: surveyed.count,
         }),
-        SurveyAnswer::Refused { count: _, refusal } => FileAnswer::Refused(refusal),
+        // A survey of as many records as the input has octets never says "more".
+        Ending::More(reached) => Err(Reason::RecordPlace.at(reached)),
     }
 }

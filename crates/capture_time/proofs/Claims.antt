@@ -11,7 +11,6 @@ use lib.IntN.{ℤ, pos, negsuc, ◌+ℤ◌, ◌*ℤ◌, +ℤ-neg_ℤ_cancel, -�
 use Rattle.refusals.specs.Refusals.{refused, given}
 use Rattle.capture_time.specs.Time.{inexpressible, unix_epoch, per_second, last_microsecond, CaptureTime, at, unix_microseconds, seconds_of, microseconds_of, time_of, below_range, leaves_range, reading, field_of, unwritable, writing}
 use Rattle.capture_time.specs.Claims.{RoundsDown, Refuses, WritesBack, ReadsBack, Instants}
-use Rattle.capture_time.proofs.Rounding.{within}
 use Rattle.capture_time.proofs.Laws.{writing-given, writable}
 use Rattle.capture_time.proofs.Fields.{up_from}
 
@@ -38,6 +37,10 @@ only-microseconds (negsuc n) u h =
 
     e : last_microsecond - (last_microsecond - u) ≡ u
     e = omega arith
+
+within : (d : ℤ) → microseconds_of d < per_second
+within (pos n) = omega arith
+within (negsuc n) = omega arith
 
 pub rounds_down : RoundsDown
 rounds_down =

@@ -56,11 +56,6 @@ module _ (u : ℕ) (h : u < per_second) where
   whole-fits (pos n) f = let b : n * per_second + u < 2 ^ 63 = f.sfits in record { sfits = omega arith }
   whole-fits (negsuc n) f = let b = size-before n f in record { sfits = omega arith }
 
-  product-fits : (z : ℤ) → SFits w64 (z *ℤ pos per_second +ℤ pos u) → lt_z z (pos 0) ≡ false
-      → SFits w64 (z *ℤ pos per_second)
-  product-fits (pos n) f t = let b : n * per_second + u < 2 ^ 63 = f.sfits in record { sfits = omega arith }
-  product-fits (negsuc n) f t = let y : ◌≡◌ {A = ℕ} 0 1 = cc in absurd (omega arith)
-
   next_fits : (z : ℤ) → SFits w64 (z *ℤ pos per_second +ℤ pos u) → SFits w64 (z +ℤ pos 1)
   next_fits (pos n) f = let b : n * per_second + u < 2 ^ 63 = f.sfits in record { sfits = omega arith }
   next_fits (negsuc n) f = let b = size-before n f in difference_fits 1 (suc n) (omega arith) (omega arith)
@@ -113,31 +108,7 @@ module _ (s : ℤ) (f : SFits w64 s) (u : ℕ) (w : unwritable s u ≡ false) (e
   microseconds_are : to_z w64 u ≡ pos u
   microseconds_are = let h = few in to_z_pos w64 (omega arith)
 
-  pub held-whole-fits : SFits w64 (held s +ℤ pos e)
-  held-whole-fits = fits_as sum_is sum_fits
-
-  -- from field 0 on
-  module _ (t : lt_z (whole s e) (pos 0) ≡ false) where
-    product : SFits w64 ((s +ℤ pos e) *ℤ pos per_second)
-    product =
-        product-fits u few (s +ℤ pos e) (fits_as field_is fits) (ap (λ (z : ℤ). lt_z z (pos 0)) (sym whole_is) ∙ t)
-
-    product_is : whole s e *ℤ pos per_second ≡ (s +ℤ pos e) *ℤ pos per_second
-    product_is = ap (λ (z : ℤ). z *ℤ pos per_second) whole_is
-
-    after_is : held (whole s e *ℤ pos per_second) +ℤ to_z w64 u ≡ field_of s u
-    after_is = ap₂ ◌+ℤ◌ (kept product_is product) microseconds_are ∙ field_is
-
-    pub held-product-fits : SFits w64 (whole s e *ℤ pos per_second)
-    held-product-fits = fits_as product_is product
-
-    pub after_fits : SFits w64 (held (whole s e *ℤ pos per_second) +ℤ to_z w64 u)
-    after_fits = fits_as after_is fits
-
-    pub field_after : held (held (whole s e *ℤ pos per_second) +ℤ to_z w64 u) ≡ field_of s u
-    field_after = kept after_is fits
-
-  -- before it
+  -- before field 0
   module _ (t : lt_z (whole s e) (pos 0) ≡ true) where
     next : SFits w64 (s +ℤ pos e +ℤ pos 1)
     next = next_fits u few (s +ℤ pos e) (fits_as field_is fits)
@@ -161,15 +132,6 @@ module _ (s : ℤ) (f : SFits w64 s) (u : ℕ) (w : unwritable s u ≡ false) (e
     before_is : held (held (whole s e +ℤ pos 1) *ℤ pos per_second) +ℤ held (to_z w64 u -ℤ pos per_second) ≡ field_of s u
     before_is =
         ap₂ ◌+ℤ◌ (kept next_product_is next_product) (kept rest_is rest) ∙ from_the_next (s +ℤ pos e) u ∙ field_is
-
-    pub held_next_fits : SFits w64 (whole s e +ℤ pos 1)
-    held_next_fits = fits_as next_is next
-
-    pub held_next_product-fits : SFits w64 (held (whole s e +ℤ pos 1) *ℤ pos per_second)
-    held_next_product-fits = fits_as next_product_is next_product
-
-    pub held-rest-fits : SFits w64 (to_z w64 u -ℤ pos per_second)
-    held-rest-fits = fits_as rest_is rest
 
     pub before-fits : SFits w64 (held (held (whole s e +ℤ pos 1) *ℤ pos per_second) +ℤ held (to_z w64 u -ℤ pos per_second))
     before-fits = fits_as before_is fits

@@ -1,27 +1,23 @@
 -- Reading and writing by their outcomes: one law for each.
 use Prim.Native.Nat.{ℕ, suc, ◌+◌, ◌-◌, ◌*◌, ◌<◌, ◌≤◌}
-use mathlib.Core.Path.{◌≡◌, refl, ap, ap₂, sym, ◌∙◌}
-use mathlib.Core.Bool.{Bool, true, false, cond, ◌||◌}
+use mathlib.Core.Path.{◌≡◌, refl, ap, ap₂, ◌∙◌}
+use mathlib.Core.Bool.{Bool, true, false, cond}
 use native.Mathlib.Omega.{arith}
 use borrow.Author.Tests.{ltb-true, ltb-false, lt-ltb, le-ltb}
-use lib.Arith.{lt_of_le-ne}
 use lib.Dec.{ltb}
 use lib.IntN.{ℤ, pos, negsuc, sub_ℕ, ◌+ℤ◌, ◌*ℤ◌, +ℤ_assoc}
 use lib.Signed.{lt_z}
 use mir.Syntax.{w64}
-use mir.Val.{SFits, of_z}
+use mir.Val.{SFits}
+use Rattle.std.proofs.lemmas.Bool.{or_parts}
 use Rattle.twos_complement.proofs.Signs.{fits_as}
 use Rattle.twos_complement.proofs.Units.{sub-down, sub-under, negative_units}
 use Rattle.refusals.specs.Refusals.{refused, given}
-use Rattle.capture_time.specs.Time.{inexpressible, unix_epoch, per_second, last_microsecond, signed_limit, unix_microseconds, time_of, below_range, above_range, leaves_range, reading, field_of, unwritable, writing}
+use Rattle.capture_time.specs.Time.{inexpressible, unix_epoch, per_second, last_microsecond, signed_limit, unix_microseconds, time_of, below_range, leaves_range, reading, field_of, unwritable, writing}
 
 -- ---- a difference and the range
 
--- below −2^63, or not
-difference_below : (a b : ℕ) → a + signed_limit < b → below_range (sub_ℕ a b) ≡ true
-difference_below a b h =
-    ap below_range (sub-under a b (omega arith)) ∙ lt-ltb (signed_limit - 1) (b - suc a) (omega arith)
-
+-- not below −2^63
 not_below : (a b : ℕ) → b ≤ a + signed_limit → (t : Bool) → ltb a b ≡ t → below_range (sub_ℕ a b) ≡ false
 not_below a b h true e =
     let l : a < b = ltb-true a b e in
@@ -31,16 +27,7 @@ not_below a b h false e = ap below_range (sub-down a b (ltb-false a b e))
 difference_not_below : (a b : ℕ) → b ≤ a + signed_limit → below_range (sub_ℕ a b) ≡ false
 difference_not_below a b h = not_below a b h (ltb a b) refl
 
--- not above 2^63 − 1
-not_above : (a b : ℕ) → a < signed_limit → (t : Bool) → ltb a b ≡ t → above_range (sub_ℕ a b) ≡ false
-not_above a b h true e = ap above_range (sub-under a b (ltb-true a b e))
-not_above a b h false e =
-    ap above_range (sub-down a b (ltb-false a b e)) ∙ le-ltb (signed_limit - 1) (a - b) (omega arith)
-
-difference_not_above : (a b : ℕ) → a < signed_limit → above_range (sub_ℕ a b) ≡ false
-difference_not_above a b h = not_above a b h (ltb a b) refl
-
--- and within the signed 64-bit range
+-- within the signed 64-bit range
 fits_by : (a b : ℕ) → a < signed_limit → b ≤ a + signed_limit → (t : Bool) → ltb a b ≡ t → SFits w64 (sub_ℕ a b)
 fits_by a b l h true e =
     let k : a < b = ltb-true a b e in
@@ -125,86 +112,16 @@ module _ (s : ℤ) (u : ℕ) where
   pub writing-given : unwritable s u ≡ false → writing s u ≡ given (field_of s u)
   writing-given = writing_by
 
-  -- and that by the first two of the three tests
-  pub unwritable_by : {a b : Bool} → ltb last_microsecond u ≡ a → below_range (field_of s u) ≡ b
-      → unwritable s u ≡ (a || (b || above_range (field_of s u)))
-  unwritable_by = ap₂ (λ (a b : Bool). a || (b || above_range (field_of s u)))
-
--- where neither of two tests holds
-neither : (a b : Bool) → a || b ≡ false → (a ≡ false) × (b ≡ false)
-neither true b e = (e, cc)
-neither false b e = (refl, e)
-
 -- what does not leave the range fits
 in_range : (z : ℤ) → leaves_range z ≡ false → SFits w64 z
 in_range (pos n) e = let h : n ≤ signed_limit - 1 = ltb-false (signed_limit - 1) n e in record { sfits = omega arith }
 in_range (negsuc n) e =
-    let h : n ≤ signed_limit - 1 = ltb-false (signed_limit - 1) n (neither (ltb (signed_limit - 1) n) false e).0 in
+    let h : n ≤ signed_limit - 1 = ltb-false (signed_limit - 1) n (or_parts (ltb (signed_limit - 1) n) false e).0 in
     record { sfits = omega arith }
 
 -- a time that can be written
 pub writable : (s : ℤ) (u : ℕ) → unwritable s u ≡ false → (u < per_second) × SFits w64 (field_of s u)
 writable s u e =
-    let n = neither (ltb last_microsecond u) (leaves_range (field_of s u)) e in
+    let n = or_parts (ltb last_microsecond u) (leaves_range (field_of s u)) e in
     let h : u ≤ last_microsecond = ltb-false last_microsecond u n.0 in
     (omega arith, in_range (field_of s u) n.1)
-
--- ---- the first time that is written: −(k + 1) seconds and m microseconds
-module _ (k u : ℕ) (h : u < per_second) where
-  pub before_first : (s : ℤ) → lt_z s (negsuc k) ≡ true → signed_limit + unix_epoch + per_second ≤ (k + 2) * per_second
-      → below_range (field_of s u) ≡ true
-  before_first (pos n) t l = let z : ◌≡◌ {A = ℕ} 0 1 = cc in absurd (omega arith)
-  before_first (negsuc n) t l =
-      let b : k < n = ltb-true k n t in
-      ap below_range (field-negative n u) ∙ difference_below (unix_epoch + u) (suc n * per_second) (omega arith)
-
-  pub after_first : (s : ℤ) → lt_z s (negsuc k) ≡ false → (of_z w64 s ≡ of_z w64 (negsuc k) → ⊥)
-      → k * per_second ≤ signed_limit + unix_epoch
-      → below_range (field_of s u) ≡ false
-  after_first (pos n) t e l = refl
-  after_first (negsuc n) t e l =
-      let b : n < k = lt_of_le-ne (ltb-false k n t) (λ x. e (ap (λ (y : ℕ). of_z w64 (negsuc y)) x)) in
-      ap below_range (field-negative n u) ∙ difference_not_below (unix_epoch + u) (suc n * per_second) (omega arith)
-
-  first_by : (m : ℕ) → signed_limit + unix_epoch + m ≡ (k + 1) * per_second → (t : Bool) → ltb u m ≡ t
-      → below_range (field_of (negsuc k) u) ≡ t
-  first_by m l true t =
-      let b : u < m = ltb-true u m t in
-      ap below_range (field-negative k u) ∙ difference_below (unix_epoch + u) (suc k * per_second) (omega arith)
-  first_by m l false t =
-      let b : m ≤ u = ltb-false u m t in
-      ap below_range (field-negative k u) ∙ difference_not_below (unix_epoch + u) (suc k * per_second) (omega arith)
-
-  pub in_the_first : (m : ℕ) {s : ℤ} → s ≡ negsuc k → signed_limit + unix_epoch + m ≡ (k + 1) * per_second
-      → ltb u m ≡ below_range (field_of s u)
-  in_the_first m e l = sym (ap (λ (z : ℤ). below_range (field_of z u)) e ∙ first_by m l (ltb u m) refl)
-
--- ---- the last: k seconds and m microseconds
-module _ (k u : ℕ) (h : u < per_second) where
-  pub after_last : (s : ℤ) → lt_z (pos k) s ≡ true → signed_limit ≤ (k + 1) * per_second + unix_epoch
-      → above_range (field_of s u) ≡ true
-  after_last (pos n) t l =
-      let b : k < n = ltb-true k n t in
-      lt-ltb (signed_limit - 1) (n * per_second + u + unix_epoch) (omega arith)
-  after_last (negsuc n) t l = let z : ◌≡◌ {A = ℕ} 0 1 = cc in absurd (omega arith)
-
-  pub before_last : (s : ℤ) → lt_z (pos k) s ≡ false → (of_z w64 s ≡ k → ⊥) → k * per_second + unix_epoch ≤ signed_limit
-      → above_range (field_of s u) ≡ false
-  before_last (pos n) t e l =
-      let b : n < k = lt_of_le-ne (ltb-false k n t) e in
-      le-ltb (signed_limit - 1) (n * per_second + u + unix_epoch) (omega arith)
-  before_last (negsuc n) t e l =
-      ap above_range (field-negative n u) ∙ difference_not_above (unix_epoch + u) (suc n * per_second) (omega arith)
-
-  last_by : (m : ℕ) → k * per_second + m + unix_epoch ≡ signed_limit - 1 → (t : Bool) → ltb m u ≡ t
-      → above_range (field_of (pos k) u) ≡ t
-  last_by m l true t =
-      let b : m < u = ltb-true m u t in
-      lt-ltb (signed_limit - 1) (k * per_second + u + unix_epoch) (omega arith)
-  last_by m l false t =
-      let b : u ≤ m = ltb-false m u t in
-      le-ltb (signed_limit - 1) (k * per_second + u + unix_epoch) (omega arith)
-
-  pub in_the_last : (m : ℕ) {s : ℤ} → s ≡ pos k → k * per_second + m + unix_epoch ≡ signed_limit - 1
-      → ltb m u ≡ above_range (field_of s u)
-  in_the_last m e l = sym (ap (λ (z : ℤ). above_range (field_of z u)) e ∙ last_by m l (ltb m u) refl)

@@ -1,6 +1,5 @@
 -- What the proofs of several functions use, and the proofs of the claims.
 mod Signed
-mod Rounding
 mod Laws
 mod Fields
 pub mod Claims

@@ -1,8 +1,7 @@
 -- Signed numbers of 64 bits as the code holds them.
-use Prim.Native.Nat.{ℕ}
 use mathlib.Core.Path.{◌≡◌, ap, sym, ◌∙◌}
 use mathlib.Core.Bool.{Bool}
-use lib.IntN.{ℤ, pos}
+use lib.IntN.{ℤ}
 use lib.Signed.{lt_z}
 use mir.Syntax.{w64}
 use mir.Val.{SFits, to_z, of_z}
@@ -13,9 +12,5 @@ abbrev pub held : ℤ → ℤ
 held z = to_z w64 (of_z w64 z)
 
 -- a test of a number that is held
-module _ {x : ℤ} {b : Bool} (f : SFits w64 x) where
-  pub held_below : (z : ℤ) → lt_z (held x) z ≡ b → lt_z x z ≡ b
-  held_below z t = ap (λ (y : ℤ). lt_z y z) (sym (to_z-of_z f)) ∙ t
-
-  pub held_above : (k : ℕ) → lt_z (pos k) (held x) ≡ b → lt_z (pos k) x ≡ b
-  held_above k t = ap (lt_z (pos k)) (sym (to_z-of_z f)) ∙ t
+pub held_below : {x : ℤ} {b : Bool} → SFits w64 x → (z : ℤ) → lt_z (held x) z ≡ b → lt_z x z ≡ b
+held_below f z t = ap (λ (y : ℤ). lt_z y z) (sym (to_z-of_z f)) ∙ t

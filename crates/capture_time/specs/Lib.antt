@@ -1,4 +1,3 @@
 -- What the contracts cite, and the claims.
 pub mod Time
-pub mod Answers
 pub mod Claims

@@ -2,6 +2,7 @@
 use Rattle.std.specs.Prelude.{ℕ, ◌-◌, ◌/◌, ◌%◌, ◌^◌, Bool, cond, ◌||◌, ltb, ℤ, pos, negsuc, neg_ℤ, ◌+ℤ◌, ◌-ℤ◌, ◌*ℤ◌}
 use Rattle.std.specs.Int.Signed.{lt_z}
 use Rattle.refusals.specs.Refusals.{Answer, refused, given}
+use Rattle.capture_time.specs.declared.Time.{Time}
 
 -- 14: a time cannot be expressed
 abbrev pub inexpressible : ℕ
@@ -24,9 +25,8 @@ abbrev pub signed_limit : ℕ
 signed_limit = 2 ^ 63
 
 -- a time: its seconds since Unix time's start, and its microseconds
-pub record CaptureTime : Type 0 where
-  pub seconds : ℤ
-  pub microseconds : ℕ
+abbrev pub CaptureTime : Type 0
+CaptureTime = Time
 
 -- the time of so many seconds and microseconds
 abbrev pub at : ℤ → ℕ → CaptureTime

@@ -2,18 +2,14 @@
 #![tactic(auto)]
 
 ghost use Rattle.std.specs.Prelude.{◌<◌, ◌≡◌, false};
-ghost use Rattle.refusals.specs.Refusals.{given};
+ghost use Rattle.refusals.specs.Says.{says};
 ghost use Rattle.capture_time.specs.Time.{per_second, time_of, below_range, above_range, reading, field_of, unwritable, writing};
-ghost use Rattle.capture_time.specs.Answers.{time_says, field_says};
 
-use refusals::Refusal;
+use refusals::{Reason, Refusal};
 
-// A time cannot be expressed.
-pub const INEXPRESSIBLE: u32 = 14;
-
-// Its refusal, which speaks of no place.
-const REFUSAL: Refusal = Refusal {
-    number: INEXPRESSIBLE,
+// The refusal of a time that cannot be expressed, which speaks of no place.
+const INEXPRESSIBLE: Refusal = Refusal {
+    reason: Reason::Time,
     place: 0,
 };
 // C of document 01: the field at which Unix time starts.
@@ -35,95 +31,91 @@ const LATEST_SECONDS: i64 = 9_161_203_780_854;
 // Its microseconds.
 const LATEST_MICROSECONDS: u32 = 775_807;
 
-// What reading a field gives.
-#[derive(Clone, Copy)]
-pub enum TimeAnswer {
-    Refused(Refusal),
-    Time { seconds: i64, microseconds: u32 },
+// A time: its seconds since Unix time's start, and its microseconds.
+#[derive(Clone, Copy, Debug, PartialEq, Eq)]
+pub struct Time {
+    pub seconds: i64,
+    pub microseconds: u32,
 }
 
-// What writing a time gives.
-#[derive(Clone, Copy)]
-pub enum FieldAnswer {
-    Refused(Refusal),
-    Field(i64),
-}
-
-// The time of so many Unix microseconds: seconds rounded down, and the microseconds above them.
-fn time_of(unix_microseconds: i64) -> TimeAnswer
-    ensures { time_says result ≡ given (time_of unix_microseconds) }
-{
-    let quotient = unix_microseconds / PER_SECOND;
-    let remainder = unix_microseconds % PER_SECOND;
-    if remainder < 0 {
-        TimeAnswer::Time {
-            seconds: quotient - 1,
-            microseconds: (remainder + PER_SECOND) as u32,
+impl Time {
+    // The time of so many Unix microseconds: seconds rounded down, and the microseconds above them.
+    fn of(unix_microseconds: i64) -> Time
+        ensures { result ≡ time_of unix_microseconds }
+    {
+        let quotient = unix_microseconds / PER_SECOND;
+        let remainder = unix_microseconds % PER_SECOND;
+        if remainder < 0 {
+            Time {
+                seconds: quotient - 1,
+                microseconds: (remainder + PER_SECOND) as u32,
+            }
+        } else {
+            Time {
+                seconds: quotient,
+                microseconds: remainder as u32,
+            }
         }
-    } else {
-        TimeAnswer::Time {
-            seconds: quotient,
-            microseconds: remainder as u32,
+    }
+
+    // Whether its field is below −2^63.
+    fn is_below_range(self) -> bool
+        requires { self.microseconds < per_second }
+        ensures { result ≡ below_range (field_of self.seconds self.microseconds) }
+    {
+        self.seconds < EARLIEST_SECONDS
+            || self.seconds == EARLIEST_SECONDS && self.microseconds < EARLIEST_MICROSECONDS
+    }
+
+    // Whether its field is above 2^63 − 1.
+    fn is_above_range(self) -> bool
+        requires { self.microseconds < per_second }
+        ensures { result ≡ above_range (field_of self.seconds self.microseconds) }
+    {
+        self.seconds > LATEST_SECONDS
+            || self.seconds == LATEST_SECONDS && self.microseconds > LATEST_MICROSECONDS
+    }
+
+    // Whether it cannot be written.
+    fn is_unwritable(self) -> bool
+        ensures { result ≡ unwritable self.seconds self.microseconds }
+    {
+        self.microseconds > LAST_MICROSECOND || (self.is_below_range() || self.is_above_range())
+    }
+
+    // Its field, where it can be written.
+    fn field(self) -> i64
+        requires { unwritable self.seconds self.microseconds ≡ false }
+        ensures { result ≡ field_of self.seconds self.microseconds }
+    {
+        let whole = self.seconds + UNIX_EPOCH_SECONDS;
+        if whole < 0 {
+            (whole + 1) * PER_SECOND + (self.microseconds as i64 - PER_SECOND)
+        } else {
+            whole * PER_SECOND + self.microseconds as i64
         }
     }
 }
 
 // The time of a field. Refuses one whose Unix microseconds are below −2^63.
-pub fn read_time(field: i64) -> TimeAnswer
-    ensures { time_says result ≡ reading field }
+// Reading and writing have names and are no TryFrom: a number is a time's field only where a record says so.
+pub fn read_time(field: i64) -> Result<Time, Refusal>
+    ensures { says result ≡ reading field }
 {
     if field < EARLIEST_FIELD {
-        TimeAnswer::Refused(REFUSAL)
+        Err(INEXPRESSIBLE)
     } else {
-        time_of(field - UNIX_EPOCH)
-    }
-}
-
-// Whether the field of a time is below −2^63.
-fn below_range(seconds: i64, microseconds: u32) -> bool
-    requires { microseconds < per_second }
-    ensures { result ≡ below_range (field_of seconds microseconds) }
-{
-    seconds < EARLIEST_SECONDS
-        || seconds == EARLIEST_SECONDS && microseconds < EARLIEST_MICROSECONDS
-}
-
-// Whether the field of a time is above 2^63 − 1.
-fn above_range(seconds: i64, microseconds: u32) -> bool
-    requires { microseconds < per_second }
-    ensures { result ≡ above_range (field_of seconds microseconds) }
-{
-    seconds > LATEST_SECONDS || seconds == LATEST_SECONDS && microseconds > LATEST_MICROSECONDS
-}
-
-// Whether a time cannot be written.
-fn unwritable(seconds: i64, microseconds: u32) -> bool
-    ensures { result ≡ unwritable seconds microseconds }
-{
-    microseconds > LAST_MICROSECOND
-        || (below_range(seconds, microseconds) || above_range(seconds, microseconds))
-}
-
-// The field of a time that can be written.
-fn field_of(seconds: i64, microseconds: u32) -> i64
-    requires { unwritable seconds microseconds ≡ false }
-    ensures { result ≡ field_of seconds microseconds }
-{
-    let whole = seconds + UNIX_EPOCH_SECONDS;
-    if whole < 0 {
-        (whole + 1) * PER_SECOND + (microseconds as i64 - PER_SECOND)
-    } else {
-        whole * PER_SECOND + microseconds as i64
+        Ok(Time::of(field - UNIX_EPOCH))
     }
 }
 
 // The field of a time. Refuses more than 999,999 microseconds, and a field that leaves the signed 64-bit range.
-pub fn write_time(seconds: i64, microseconds: u32) -> FieldAnswer
-    ensures { field_says result ≡ writing seconds microseconds }
+pub fn write_time(time: Time) -> Result<i64, Refusal>
+    ensures { says result ≡ writing time.seconds time.microseconds }
 {
-    if unwritable(seconds, microseconds) {
-        FieldAnswer::Refused(REFUSAL)
+    if time.is_unwritable() {
+        Err(INEXPRESSIBLE)
     } else {
-        FieldAnswer::Field(field_of(seconds, microseconds))
+        Ok(time.field())
     }
 }

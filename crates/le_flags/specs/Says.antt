@@ -1,12 +1,12 @@
 -- What each enum of the code says in document 01's terms: its number and its values, case by case.
-use Rattle.std.specs.Prelude.{ℕ, Bool, true, false}
+use Rattle.std.specs.Prelude.{ℕ}
+use Rattle.pseudo_header.specs.Says.{knowledge_says}
 use Rattle.le_rules.specs.Flags as Flags
 use Rattle.le_rules.specs.Flags.{auxiliary, mic}
 use Rattle.le_flags.specs.declared.PduType.{PduType}
 use Rattle.le_flags.specs.declared.Phy.{Phy}
 use Rattle.le_flags.specs.declared.AuxiliaryKind.{AuxiliaryKind}
 use Rattle.le_flags.specs.declared.Dependent.{Dependent}
-use Rattle.le_flags.specs.declared.Knowledge.{Knowledge}
 use Rattle.le_flags.specs.declared.Told.{Told}
 
 -- the PDU types of source document 001, counted from 0; 7 is reserved
@@ -38,11 +38,6 @@ auxiliary_number AuxiliaryKind.AuxScanRsp = 3
 abbrev pub dependent_says : Dependent → Flags.Dependent
 dependent_says (Dependent.Auxiliary kind) = auxiliary (auxiliary_number kind)
 dependent_says (Dependent.Mic checked passed) = mic checked passed
-
--- whether a value's flag is set
-abbrev pub knowledge_says : Knowledge → Bool
-knowledge_says Knowledge.Known = true
-knowledge_says Knowledge.Unknown = false
 
 -- what the flags tell
 abbrev pub told_says : Told → Flags.Told

@@ -3,10 +3,12 @@
 
 ghost use Rattle.std.specs.Prelude.{◌≡◌};
 ghost use Rattle.le_rules.specs.Flags.{pdu_type, phy as phy_of, dependent_bits, dependent as dependent_of, told_by};
-ghost use Rattle.le_flags.specs.Says.{pdu_type_number, phy_number, auxiliary_number, dependent_says, knowledge_says, told_says};
+ghost use Rattle.le_flags.specs.Says.{pdu_type_number, phy_number, auxiliary_number, dependent_says, told_says};
+
+use pseudo_header::Knowledge;
 
 // The PDU type (flags bits 7 to 9), in the order of source document 001, counted from 0.
-#[derive(Clone, Copy)]
+#[derive(Clone, Copy, Debug, PartialEq, Eq)]
 pub enum PduType {
     AdvertisingOrData,
     AuxiliaryAdvertising,
@@ -18,8 +20,26 @@ pub enum PduType {
     Reserved,
 }
 
+impl PduType {
+    // That of flags.
+    pub fn of(flags: u16) -> PduType
+        ensures { pdu_type_number result ≡ pdu_type flags }
+    {
+        match (flags >> 7) % 8 {
+            0 => PduType::AdvertisingOrData,
+            1 => PduType::AuxiliaryAdvertising,
+            2 => PduType::DataMasterToSlave,
+            3 => PduType::DataSlaveToMaster,
+            4 => PduType::ConnectedIsochronousMasterToSlave,
+            5 => PduType::ConnectedIsochronousSlaveToMaster,
+            6 => PduType::BroadcastIsochronous,
+            _ => PduType::Reserved,
+        }
+    }
+}
+
 // The PHY (flags bits 14 and 15), in the order of source document 001, counted from 0.
-#[derive(Clone, Copy)]
+#[derive(Clone, Copy, Debug, PartialEq, Eq)]
 pub enum Phy {
     Le1M,
     Le2M,
@@ -27,8 +47,22 @@ pub enum Phy {
     Reserved,
 }
 
+impl Phy {
+    // That of flags.
+    pub fn of(flags: u16) -> Phy
+        ensures { phy_number result ≡ phy_of flags }
+    {
+        match (flags >> 14) % 4 {
+            0 => Phy::Le1M,
+            1 => Phy::Le2M,
+            2 => Phy::LeCoded,
+            _ => Phy::Reserved,
+        }
+    }
+}
+
 // The auxiliary kind (flags bits 12 and 13 for PDU type 1), in the order of source document 001, counted from 0.
-#[derive(Clone, Copy)]
+#[derive(Clone, Copy, Debug, PartialEq, Eq)]
 pub enum AuxiliaryKind {
     AuxAdvInd,
     AuxChainInd,
@@ -36,22 +70,44 @@ pub enum AuxiliaryKind {
     AuxScanRsp,
 }
 
+impl AuxiliaryKind {
+    // Bits 12 and 13 of flags as one.
+    fn of(flags: u16) -> AuxiliaryKind
+        ensures { auxiliary_number result ≡ dependent_bits flags }
+    {
+        match (flags >> 12) % 4 {
+            0 => AuxiliaryKind::AuxAdvInd,
+            1 => AuxiliaryKind::AuxChainInd,
+            2 => AuxiliaryKind::AuxSyncInd,
+            _ => AuxiliaryKind::AuxScanRsp,
+        }
+    }
+}
+
 // What flags bits 12 and 13 tell: for PDU type 1 the auxiliary kind, otherwise whether the MIC was checked and passed.
-#[derive(Clone, Copy)]
+#[derive(Clone, Copy, Debug, PartialEq, Eq)]
 pub enum Dependent {
     Auxiliary(AuxiliaryKind),
     Mic { checked: bool, passed: bool },
 }
 
-// Whether a value is known.
-#[derive(Clone, Copy)]
-pub enum Knowledge {
-    Known,
-    Unknown,
+impl Dependent {
+    // What bits 12 and 13 of flags tell, which depends on the PDU type.
+    fn of(flags: u16) -> Dependent
+        ensures { dependent_says result ≡ dependent_of flags }
+    {
+        match PduType::of(flags) {
+            PduType::AuxiliaryAdvertising => Dependent::Auxiliary(AuxiliaryKind::of(flags)),
+            _ => Dependent::Mic {
+                checked: (flags >> 12) % 2 == 1,
+                passed: (flags >> 13) % 2 == 1,
+            },
+        }
+    }
 }
 
 // What the flags tell: each of four values as known or not, the PDU type, the PHY, and the bits that depend on the type.
-#[derive(Clone, Copy)]
+#[derive(Clone, Copy, Debug, PartialEq, Eq)]
 pub struct Told {
     pub signal: Knowledge,
     pub noise: Knowledge,
@@ -62,85 +118,17 @@ pub struct Told {
     pub dependent: Dependent,
 }
 
-// The PDU type whose bits 12 and 13 are the auxiliary kind.
-const AUXILIARY_ADVERTISING: u16 = 1;
-
 // What the flags tell, all of it.
 pub fn told_by(flags: u16) -> Told
     ensures { told_says result ≡ told_by flags }
 {
     Told {
-        signal: knowledge_of((flags >> 1) % 2 == 1),
-        noise: knowledge_of((flags >> 2) % 2 == 1),
-        reference: knowledge_of((flags >> 4) % 2 == 1),
-        offences: knowledge_of((flags >> 5) % 2 == 1),
-        pdu: pdu_type_of(flags),
-        phy: phy_of(flags),
-        dependent: dependent_of(flags),
-    }
-}
-
-// Known where the value's flag is set.
-fn knowledge_of(set: bool) -> Knowledge
-    ensures { knowledge_says result ≡ set }
-{
-    if set {
-        Knowledge::Known
-    } else {
-        Knowledge::Unknown
-    }
-}
-
-// The PDU type: bits 7 to 9.
-fn pdu_type_of(flags: u16) -> PduType
-    ensures { pdu_type_number result ≡ pdu_type flags }
-{
-    match (flags >> 7) % 8 {
-        0 => PduType::AdvertisingOrData,
-        1 => PduType::AuxiliaryAdvertising,
-        2 => PduType::DataMasterToSlave,
-        3 => PduType::DataSlaveToMaster,
-        4 => PduType::ConnectedIsochronousMasterToSlave,
-        5 => PduType::ConnectedIsochronousSlaveToMaster,
-        6 => PduType::BroadcastIsochronous,
-        _ => PduType::Reserved,
-    }
-}
-
-// The PHY: bits 14 and 15.
-fn phy_of(flags: u16) -> Phy
-    ensures { phy_number result ≡ phy_of flags }
-{
-    match (flags >> 14) % 4 {
-        0 => Phy::Le1M,
-        1 => Phy::Le2M,
-        2 => Phy::LeCoded,
-        _ => Phy::Reserved,
-    }
-}
-
-// What bits 12 and 13 tell, which depends on the PDU type.
-fn dependent_of(flags: u16) -> Dependent
-    ensures { dependent_says result ≡ dependent_of flags }
-{
-    if (flags >> 7) % 8 == AUXILIARY_ADVERTISING {
-        Dependent::Auxiliary(auxiliary_kind_of(flags))
-    } else {
-        Dependent::Mic {
-            checked: (flags >> 12) % 2 == 1,
-            passed: (flags >> 13) % 2 == 1,
-        }
-    }
-}
-
-// Bits 12 and 13 as an auxiliary kind.
-fn auxiliary_kind_of(flags: u16) -> AuxiliaryKind
-    ensures { auxiliary_number result ≡ dependent_bits flags }
-{
-    match (flags >> 12) % 4 {
-        0 => AuxiliaryKind::AuxAdvInd,
-        1 => AuxiliaryKind::AuxChainInd,
-        2 => AuxiliaryKind::AuxSyncInd,
-        _ => AuxiliaryKind::AuxScanRsp,
+        signal: Knowledge::from((flags >> 1) % 2 == 1),
+        noise: Knowledge::from((flags >> 2) % 2 == 1),
+        reference: Knowledge::from((flags >> 4) % 2 == 1),
+        offences: Knowledge::from((flags >> 5) % 2 == 1),
+        pdu: PduType::of(flags),
+        phy: Phy::of(flags),
+        dependent: Dependent::of(flags),
     }
 }

@@ -1,10 +1,8 @@
--- What the reader's answer says in document 01's terms, case by case.
-use Rattle.refusals.specs.Refusals.{Answer, refused, given}
-use Rattle.le_rules.specs.Reading.{Header}
+-- What a header of the code says in document 01's terms.
+use Rattle.le_rules.specs.Reading as Reading
 use Rattle.le_flags.specs.Says.{told_says}
-use Rattle.le_header.specs.declared.LeAnswer.{LeAnswer}
+use Rattle.le_header.specs.declared.Header.{Header}
 
--- the reader: the refusal, or the values and what the flags tell
-abbrev pub le_says : LeAnswer → Answer Header
-le_says (LeAnswer.Refused r) = refused r.number r.place
-le_says (LeAnswer.Read values told) = given (record { values = values; told = told_says told })
+-- its values, and what the flags tell
+abbrev pub header_of : Header → Reading.Header
+header_of h = record { values = h.values; told = told_says h.told }

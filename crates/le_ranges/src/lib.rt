@@ -2,82 +2,61 @@
 #![tactic(auto)]
 
 ghost use Rattle.std.specs.Prelude.{◌≡◌};
+ghost use Rattle.refusals.specs.Says.{number_of};
 ghost use Rattle.le_rules.specs.Reading.{fault_number, fault_place, range_of, least_packet};
 ghost use Rattle.le_ranges.specs.Says.{fault_says, range_says};
 
-use refusals::Refusal;
+use le_flags::{PduType, Phy};
+use le_rules::Values;
+use refusals::{Reason, Refusal};
+
+// The highest RF channel.
+const LAST_CHANNEL: u8 = 39;
+// The place of the RF channel.
+const CHANNEL_PLACE: usize = 0;
+// The place of the flags, which have the PDU type and the PHY.
+const FLAGS_PLACE: usize = 8;
 
 // A value out of range: an RF channel above 39, PDU type 7, PHY 3.
-#[derive(Clone, Copy)]
+#[derive(Clone, Copy, Debug, PartialEq, Eq)]
 pub enum Fault {
     ChannelAbove,
     PduTypeReserved,
     PhyReserved,
 }
 
-// Channel and flags judged: the first fault, or none.
-#[derive(Clone, Copy)]
-pub enum Range {
-    OutOf(Fault),
-    Within,
-}
-
-// The highest RF channel.
-const LAST_CHANNEL: u8 = 39;
-// The PDU type that is reserved.
-const RESERVED_TYPE: u16 = 7;
-// The PHY that is reserved.
-const RESERVED_PHY: u16 = 3;
-// The PHY whose packets have an octet more, the coding indicator.
-const CODED_PHY: u16 = 2;
-
-// The refusal of a channel above the highest, at the channel's place.
-const CHANNEL_ABOVE: Refusal = Refusal {
-    number: 8,
-    place: 0,
-};
-// The refusal of the reserved PDU type, at the flags' place.
-const PDU_TYPE_RESERVED: Refusal = Refusal {
-    number: 21,
-    place: 8,
-};
-// The refusal of the reserved PHY, at the flags' place.
-const PHY_RESERVED: Refusal = Refusal {
-    number: 22,
-    place: 8,
-};
-
-// Judges channel and flags, in the order channel, PDU type, PHY.
-pub fn judge(channel: u8, flags: u16) -> Range
-    ensures { range_says result ≡ range_of channel flags }
-{
-    if LAST_CHANNEL < channel {
-        return Range::OutOf(Fault::ChannelAbove);
-    }
-    if (flags >> 7) % 8 == RESERVED_TYPE {
-        return Range::OutOf(Fault::PduTypeReserved);
-    }
-    if (flags >> 14) % 4 == RESERVED_PHY {
-        Range::OutOf(Fault::PhyReserved)
-    } else {
-        Range::Within
-    }
-}
-
 // The refusal of a fault, by a reader.
-pub fn refusal(fault: Fault) -> Refusal
-    ensures { (result.number ≡ fault_number (fault_says fault)) × (result.place ≡ fault_place (fault_says fault)) }
-{
-    match fault {
-        Fault::ChannelAbove => CHANNEL_ABOVE,
-        Fault::PduTypeReserved => PDU_TYPE_RESERVED,
-        Fault::PhyReserved => PHY_RESERVED,
+impl From<Fault> for Refusal {
+    ghost from_gives = { λ fault refusal. (number_of refusal.reason ≡ fault_number (fault_says fault)) × (refusal.place ≡ fault_place (fault_says fault)) };
+
+    fn from(fault: Fault) -> Refusal {
+        match fault {
+            Fault::ChannelAbove => Reason::RfChannel.at(CHANNEL_PLACE),
+            Fault::PduTypeReserved => Reason::ReservedPduType.at(FLAGS_PLACE),
+            Fault::PhyReserved => Reason::ReservedPhy.at(FLAGS_PLACE),
+        }
     }
 }
 
-// How many octets a packet has at least.
+// Judges the channel and the flags of values, in the order channel, PDU type, PHY: the first fault, or none.
+pub fn judge(values: Values) -> Result<(), Fault>
+    ensures { range_says result ≡ range_of values.channel values.flags }
+{
+    if LAST_CHANNEL < values.channel {
+        return Err(Fault::ChannelAbove);
+    }
+    if PduType::of(values.flags) == PduType::Reserved {
+        return Err(Fault::PduTypeReserved);
+    }
+    if Phy::of(values.flags) == Phy::Reserved {
+        return Err(Fault::PhyReserved);
+    }
+    Ok(())
+}
+
+// How many octets a packet has at least: one more for the coded PHY, the coding indicator.
 pub fn least_packet(flags: u16) -> usize
     ensures { result ≡ least_packet flags }
 {
-    if (flags >> 14) % 4 == CODED_PHY { 5 } else { 4 }
+    if Phy::of(flags) == Phy::LeCoded { 5 } else { 4 }
 }

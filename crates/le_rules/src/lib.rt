@@ -6,7 +6,7 @@
 pub const HEADER_LENGTH: usize = 10;
 
 // The values in a pseudo-header's ten octets.
-#[derive(Clone, Copy)]
+#[derive(Clone, Copy, Debug, PartialEq, Eq)]
 pub struct Values {
     pub channel: u8,
     pub signal: i8,

@@ -3,6 +3,7 @@
 #![tactic(auto)]
 
 ghost use Rattle.std.specs.Prelude.{◌≡◌, ◌+◌, get_or};
+ghost use Rattle.octets.specs.Numbers.{octets_at};
 ghost use Rattle.octets.specs.Parts.{part as part_of, has_room};
 
 // Whether an input or output of a length has room for so many octets from a place on.
@@ -25,6 +26,20 @@ pub fn octet(s: &[u8], at: usize, after: usize) -> u8
         }
     }
     0
+}
+
+// So many octets from a place on, 0 past the end.
+pub fn array<const N: usize>(s: &[u8], at: usize) -> [u8; N]
+    ensures { result ≡ octets_at s.now at N }
+{
+    if let Some(whole) = part(s, at, N).first_chunk() {
+        return *whole;
+    }
+    let mut found = [0; N];
+    for i in 0..N {
+        found[i] = octet(s, at, i);
+    }
+    found
 }
 
 // The part of an input of so many octets from a place on, shorter where the input ends before.

@@ -6,21 +6,35 @@ ghost use Rattle.std.specs.Prelude.{◌≡◌, ◌≤◌};
 ghost use Rattle.pseudo_header.specs.Flags.{bit_of, known_bits};
 ghost use Rattle.pseudo_header.specs.Says.{knowledge_says};
 
-// Whether a value is known.
-#[derive(Clone, Copy)]
+// Whether a value is known. A value is kept whether known or not, so this stands beside it; an Option would lose it.
+#[derive(Clone, Copy, Debug, PartialEq, Eq)]
 pub enum Knowledge {
     Known,
     Unknown,
 }
 
 // Known where the value's flag is set.
-pub fn knowledge_of(set: bool) -> Knowledge
-    ensures { knowledge_says result ≡ set }
-{
-    if set {
-        Knowledge::Known
-    } else {
-        Knowledge::Unknown
+impl From<bool> for Knowledge {
+    ghost from_gives = { λ set knowledge. knowledge_says knowledge ≡ set };
+
+    fn from(set: bool) -> Knowledge {
+        if set {
+            Knowledge::Known
+        } else {
+            Knowledge::Unknown
+        }
+    }
+}
+
+impl Knowledge {
+    // The flag's bit: set where the value is known.
+    fn bit(self) -> u64
+        ensures { (result ≡ bit_of (knowledge_says self)) × (result ≤ 1) }
+    {
+        match self {
+            Knowledge::Known => 1,
+            Knowledge::Unknown => 0,
+        }
     }
 }
 
@@ -28,14 +42,5 @@ pub fn knowledge_of(set: bool) -> Knowledge
 pub fn known_bits(first: Knowledge, second: Knowledge, third: Knowledge, fourth: Knowledge) -> u64
     ensures { result ≡ known_bits (knowledge_says first) (knowledge_says second) (knowledge_says third) (knowledge_says fourth) }
 {
-    known_bit(first) + 2 * known_bit(second) + 4 * known_bit(third) + 8 * known_bit(fourth)
-}
-
-fn known_bit(knowledge: Knowledge) -> u64
-    ensures { (result ≡ bit_of (knowledge_says knowledge)) × (result ≤ 1) }
-{
-    match knowledge {
-        Knowledge::Known => 1,
-        Knowledge::Unknown => 0,
-    }
+    first.bit() + 2 * second.bit() + 4 * third.bit() + 8 * fourth.bit()
 }

@@ -295,8 +295,8 @@ module _ (word known : ℕ) where
     hidden_behind bit low high false u v e k taken = refl
 
     -- so what the word carries is shown below it, and it stops a walk
-    pub carries-all : Carries word known (bit_and (bit_and fields known) r) unknown
-    carries-all =
+    carries_by_mask : Carries word known (bit_and (bit_and fields known) r) unknown
+    carries_by_mask =
         record {
           small = unknown-small;
           strange = λ bit high. without_bit fields known bit ∙ ap (λ (t : Bool). t && not (bit_set known bit)) (field-bit word bit high);
@@ -323,6 +323,10 @@ module _ (word known : ℕ) where
         and_assoc : (t u v : Bool) → ((t && u) && v) ≡ (t && u && v)
         and_assoc true u v = refl
         and_assoc false u v = refl
+
+  -- and r is the number below the others, which wraps where there are none
+  pub carries_all : Carries word known (bit_and (bit_and fields known) ((unknown + 4294967295) % 4294967296)) unknown
+  carries_all = carries_by_mask ((unknown + 4294967295) % 4294967296) (omega arith) (omega (arith, unknown-small))
 
 module _ {word stop from left : ℕ} (l : LeftFrom word stop from left) where
   -- the lowest bit left

@@ -1,3 +1,4 @@
 pub mod SetLaws
 pub mod KnownLaws
 pub mod LeftLaws
+pub mod SetBitsLaws

@@ -1,6 +1,6 @@
 -- The bits of a presence word: the set ones, those that an edition knows, what the word carries, and what stops a walk in a
 -- continued word.
-use Rattle.std.specs.Prelude.{◌≡◌, ℕ, ◌^◌, ◌<◌, ◌≤◌, Bool, true, false, not, ◌&&◌, ◌||◌, ◌==◌}
+use Rattle.std.specs.Prelude.{◌≡◌, ℕ, ◌-◌, ◌^◌, ◌<◌, ◌≤◌, Bool, true, false, not, ◌&&◌, ◌||◌, ◌==◌, bit_and, Option, MatchOption}
 use Rattle.std.specs.Int.Count.{count_trailing_zeros}
 use Rattle.radiotap_rules.specs.Rules.{knows}
 use Rattle.radiotap_rules.specs.Table.{our_rules}
@@ -12,6 +12,12 @@ pub record NextSet (word from next : ℕ) : Type 0 where
   pub set : next < word_bits → bit_set word next ≡ true
   pub low : next < word_bits → from ≤ next
   pub high : next ≤ word_bits
+
+-- the lowest of the bits that are left, and the bits that are then left
+abbrev pub TakesLowest : (left : ℕ) → Option ℕ → (left' : ℕ) → Type 0
+TakesLowest left next left' =
+    MatchOption next (left ≡ 0)
+    (λ bit. (0 < left) × (bit ≡ count_trailing_zeros word_bits left) × (left' ≡ bit_and left (left - 1)))
 
 -- a word whose set bits are those that an edition knows
 abbrev pub KnownBits : (edition word : ℕ) → Type 0

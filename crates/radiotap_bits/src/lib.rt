@@ -2,9 +2,10 @@
 // word is continued.
 #![tactic(auto)]
 
-ghost use Rattle.std.specs.Prelude.{◌≡◌, ◌&&◌, leb, if◌then◌else◌, nat_le};
+ghost use Rattle.std.specs.Prelude.{◌≡◌};
+ghost use Rattle.std.specs.Iterator.{at_most};
 ghost use Rattle.radiotap_rules.specs.Reading.{bit_set};
-ghost use Rattle.radiotap_bits.specs.Bits.{NextSet, KnownBits, Carries, Continues};
+ghost use Rattle.radiotap_bits.specs.Bits.{NextSet, TakesLowest, KnownBits, Carries, Continues};
 
 // The bits of a presence word that carry a field: all but 29 and 31.
 pub const FIELD_BITS: u32 = 0x5fff_ffff;
@@ -18,6 +19,7 @@ pub struct Carried {
 }
 
 // The first set bit of a presence word from a bit on; 32 where there is none.
+// No Option: 32 is the end of the word, as trailing_zeros has it, and a step passes it by the one test that passes bit 31.
 pub fn next_set(word: u32, from: u32) -> u32
     ensures { NextSet word from result }
 {
@@ -28,7 +30,37 @@ pub fn next_set(word: u32, from: u32) -> u32
     if rest == 0 {
         return 32;
     }
-    from + u32::trailing_zeros(rest)
+    from + rest.trailing_zeros()
+}
+
+// The set bits of a presence word, from the lowest up.
+#[derive(Clone, Copy, Drop)]
+pub struct SetBits {
+    left: u32,
+}
+
+// All set bits of a presence word.
+pub fn set_bits(word: u32) -> SetBits
+    ensures { result.left ≡ word }
+{
+    SetBits { left: word }
+}
+
+impl Iterator for SetBits {
+    type Item = u32;
+
+    ghost next_gives = { λ s next t. TakesLowest s.left next t.left };
+
+    ghost remaining = { λ s. at_most s.left };
+
+    fn next(&mut self) -> Option<u32> {
+        if self.left == 0 {
+            return None;
+        }
+        let bit = self.left.trailing_zeros();
+        self.left = self.left & (self.left - 1);
+        Some(bit)
+    }
 }
 
 // The bits that the edition taken knows, as a presence word: a constant for each edition, gathered at compile time.
@@ -49,10 +81,10 @@ fn gathered(taken: u32) -> u32
 {
     let rows = radiotap_table::rows();
     let mut bits: u32 = 0;
-    let mut bit: usize = 32;
-    while 0 < bit {
-        bit -= 1;
-        bits = 2 * bits + knows(rows[bit][2], taken);
+    for (bit, row) in rows.iter().enumerate() {
+        if row.known(taken) {
+            bits |= 1 << bit;
+        }
     }
     bits
 }
@@ -65,7 +97,7 @@ pub fn carries(word: u32, known: u32) -> Carried
     let known_fields = fields & known;
     let unknown = fields ^ known_fields;
     Carried {
-        shown: known_fields & std::num::wrapping_sub_u32(unknown, 1),
+        shown: known_fields & unknown.wrapping_sub(1),
         unknown,
     }
 }
@@ -86,17 +118,4 @@ pub fn continued(before: u32, word: u32) -> u32
         return 0;
     }
     word & FIELD_BITS
-}
-
-// 1 where the edition taken knows a field by its first edition, else 0.
-fn knows(first: u8, taken: u32) -> u32
-    ensures { result ≡ (if leb 1 first && nat_le first taken then 1 else 0) }
-{
-    if first == 0 {
-        return 0;
-    }
-    if first as u32 > taken {
-        return 0;
-    }
-    1
 }

@@ -4,24 +4,40 @@ use Prim.Native.Nat.{ℕ, suc, ◌+◌, ◌-◌, ◌≤◌, ◌<◌}
 use mathlib.Core.Path.{◌≡◌, refl, sym, ap, ap₂, ◌∙◌, subst}
 use mathlib.Core.Bool.{Bool, cond}
 use mathlib.Core.List.{List, [], ◌∷◌}
+use Rattle.std.specs.Prelude.{Option, Some, None}
 use native.Mathlib.Omega.{arith}
 use native.Mathlib.Decide.{dec_le}
 use lib.ListN.{length}
 use lib.Dec.{ltb, eqb}
 use borrow.Author.Tests.{lt-ltb, le-ltb, eq-eqb, ne_eqb}
-use Rattle.refusals.specs.Refusals.{given}
-use Rattle.radiotap_rules.specs.declared.Head.{Head}
+use Rattle.octets.proofs.PartLaws.{length_part}
 use Rattle.radiotap_rules.specs.declared.Cursor.{Cursor}
-use Rattle.radiotap_rules.specs.Rules.{Rules, edition_taken}
-use Rattle.radiotap_rules.specs.Table.{our_rules}
-use Rattle.radiotap_rules.specs.Reading.{presence_words, Field, Ending, Reading, refused_before, refused_at_field, read, read_words, reading, the_field, no_field, nth, field_of}
-use Rattle.radiotap_rules.specs.Steps.{head_at, met, step_of}
+use Rattle.radiotap_rules.specs.Rules.{Rules}
+use Rattle.radiotap_rules.specs.Reading.{presence_words, Field, Ending, Reading, refused_before, refused_at_field, read, read_words, refused_field, the_field, no_field, nth, field_of}
+use Rattle.radiotap_rules.specs.Steps.{refused_step, over, met, step_of}
 use Rattle.radiotap_rules.proofs.Steps.{positions_left, next_behind}
-use Rattle.radiotap.specs.Says.{opening}
-use Rattle.radiotap.specs.Outcomes.{Outcome, shown_outcome, none_kept, kept_from, outcome}
-use Rattle.radiotap.proofs.WalkLaws.{SoFar, passes}
-use Rattle.radiotap.proofs.ReadLaws.{opened_walk}
-use Rattle.radiotap_field.specs.Keeping.{numbered_as}
+use Rattle.radiotap.specs.Outcomes.{shown_outcome, none_kept, kept_from, outcome}
+use Rattle.radiotap.proofs.WalkLaws.{SoFar, refuses, finishes, passes}
+use Rattle.radiotap_field.specs.declared.Shown.{Shown}
+use Rattle.radiotap_field.specs.declared.FieldAnswer.{FieldAnswer}
+use Rattle.radiotap_field.specs.Says.{shown_of, answer_of, AnswerSized}
+use Rattle.radiotap_field.specs.Keeping.{kept_or, numbered_as}
+
+-- the field that a walk keeps; all numbers 0 where it keeps none
+abbrev pub kept_of : List ℕ → Option Shown → Field
+kept_of s None = none_kept
+kept_of s (Some f) = shown_of s f
+
+-- it keeps the field of the number as soon as it is met, and that lies inside the input
+abbrev pub KeptOf : List ℕ → (number fields : ℕ) → Option Shown → Type 0
+KeptOf s number fields None = fields ≤ number
+KeptOf s number fields (Some f) = (number < fields) × (f.start + f.size ≤ length s)
+
+-- past a field of another number it keeps what it kept
+pub still-kept : (s : List ℕ) (number : ℕ) {fields : ℕ} (kept : Option Shown) → (fields ≡ number → ⊥) → KeptOf s number fields kept
+    → KeptOf s number (fields + 1) kept
+still-kept s number None other of = omega (arith, other, of)
+still-kept s number (Some f) other of = (omega (arith, of.0), of.1)
 
 -- a step that meets a field
 module _ (rules : Rules) (edition : ℕ) (s : List ℕ) (number : ℕ) {size : ℕ} {c : Cursor} {fields : ℕ} {kept : Field}
@@ -52,10 +68,10 @@ module _ (rules : Rules) (edition : ℕ) (s : List ℕ) (number : ℕ) {size : �
 
 -- a number below those shown has the field that was kept, any other the ending
 module _ (number fields : ℕ) (e : Ending) (kept : Field) where
-  pub numbered-shown : number < fields → numbered_as number (shown_outcome fields e kept) ≡ the_field kept
+  numbered-shown : number < fields → numbered_as number (shown_outcome fields e kept) ≡ the_field kept
   numbered-shown h = ap (λ (t : Bool). cond t (the_field kept) (no_field e)) (lt-ltb number fields h)
 
-  pub numbered_past : fields ≤ number → numbered_as number (shown_outcome fields e kept) ≡ no_field e
+  numbered_past : fields ≤ number → numbered_as number (shown_outcome fields e kept) ≡ no_field e
   numbered_past h = ap (λ (t : Bool). cond t (the_field kept) (no_field e)) (le-ltb number fields h)
 
 -- past its number nothing more is kept
@@ -94,12 +110,31 @@ number-left k (read fs e frame) =
     let all : k - 0 ≡ k = omega arith in
     kept-nth 0 k none_kept fs e (omega arith) ∙ ap (nth fs e) all
 
--- and of an edition's reading
-pub number_by : (edition : ℕ) (s : List ℕ) (h : Head) → opening edition (head_at s) ≡ given h → (taken k : ℕ)
-    → taken ≡ edition_taken our_rules.reading_default edition → (w : Outcome)
-    → w ≡ outcome k (read_words our_rules taken s h.size (presence_words s h.size))
-    → numbered_as k w ≡ field_of (reading our_rules edition s) k
-number_by edition s h opens taken k takes w leaves =
-    ap (numbered_as k) leaves
-    ∙ number-left k (read_words our_rules taken s h.size (presence_words s h.size))
-    ∙ ap (λ (x : Reading). field_of x k) (opened_walk edition s opens takes)
+module _ (rules : Rules) (edition : ℕ) (s : List ℕ) (number : ℕ) {size : ℕ} {c : Cursor} {fields : ℕ} where
+  -- a walk that is refused answers so
+  pub refused-number : {kept : Field} → SoFar rules edition s size number c fields kept → {n p : ℕ} → step_of rules edition s c ≡ refused_step n p
+      → refused_field n p ≡ field_of (read_words rules edition s size (presence_words s size)) number
+  refused-number f step =
+      ap (numbered_as number) (sym (refuses rules edition s number f step))
+      ∙ number-left number (read_words rules edition s size (presence_words s size))
+
+  -- and one that ends by the field that it kept, or its ending where it kept none
+  pub over-number : (kept : Option Shown) → SoFar rules edition s size number c fields (kept_of s kept) → KeptOf s number fields kept
+      → {e : Ending} → step_of rules edition s c ≡ over e → (otherwise : FieldAnswer) → answer_of s otherwise ≡ no_field e → AnswerSized s otherwise
+      → (answer_of s (kept_or kept otherwise) ≡ field_of (read_words rules edition s size (presence_words s size)) number)
+      × AnswerSized s (kept_or kept otherwise)
+  over-number kept f of {e} step otherwise says sized = (
+    by kept of
+        ∙ ap (numbered_as number) (sym (finishes rules edition s number f step))
+        ∙ number-left number (read_words rules edition s size (presence_words s size)),
+    long kept of,
+  )
+    where
+      by : (kept : Option Shown) → KeptOf s number fields kept
+          → answer_of s (kept_or kept otherwise) ≡ numbered_as number (shown_outcome fields e (kept_of s kept))
+      by None of = says ∙ sym (numbered_past number fields e none_kept of)
+      by (Some g) of = sym (numbered-shown number fields e (shown_of s g) of.0)
+
+      long : (kept : Option Shown) → KeptOf s number fields kept → AnswerSized s (kept_or kept otherwise)
+      long None of = sized
+      long (Some g) of = length_part s g.start g.size of.1

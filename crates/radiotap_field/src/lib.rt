@@ -8,163 +8,80 @@ ghost use Rattle.radiotap_rules.specs.Table.{our_rules};
 ghost use Rattle.radiotap_rules.specs.Reading.{presence_words, read_words, reading, field_of};
 ghost use Rattle.radiotap_rules.specs.Steps.{head_at};
 ghost use Rattle.radiotap_rules.specs.Answers.{octets_of_field};
-ghost use Rattle.radiotap.specs.Outcomes.{outcome};
 ghost use Rattle.radiotap_field.specs.Says.{field_says, FieldSized};
-ghost use Rattle.radiotap_field.specs.Keeping.{walk_says, KeptInside, NumberedAs, kept_field};
+ghost use Rattle.radiotap_field.specs.Keeping.{kept_or as KeptOr};
 
-use radiotap_head::HeadAnswer;
 use radiotap_rules::Head;
-use radiotap_step::Step;
+use radiotap_step::{Step, Stop};
 use refusals::Refusal;
 
-// A field by its number: its word and bit, its start and its size; at and past those shown the end or the named stop.
+// A field that is shown: its word and bit, its start and its size.
+#[derive(Clone, Copy)]
+pub struct Shown {
+    pub word: u32,
+    pub bit: u32,
+    pub start: usize,
+    pub size: u8,
+}
+
+// What a field number is answered with: the field; at and past those shown the end or the named stop.
 #[derive(Clone, Copy)]
 pub enum FieldAnswer {
-    Refused(Refusal),
     End,
-    Stop {
-        word: u32,
-        bit: u32,
-    },
-    Field {
-        word: u32,
-        bit: u32,
-        start: usize,
-        size: u8,
-    },
+    Stop(Stop),
+    Field(Shown),
 }
 
 // Reads a field by its number.
-pub fn field(s: &[u8], edition: u32, number: usize) -> FieldAnswer
+pub fn field(s: &[u8], edition: u32, number: usize) -> Result<FieldAnswer, Refusal>
     ensures result_value { field_says s.now result ≡ field_of (reading our_rules edition s.now) number }
     ensures field_sized { FieldSized s.now result }
 {
-    match radiotap::opened(s, edition) {
-        HeadAnswer::Refused(refusal) => FieldAnswer::Refused(refusal),
-        HeadAnswer::Given(head) => {
-            numbered(
-                number,
-                walk(s, radiotap_table::reading(edition), head, number),
-            )
-        }
-    }
-}
-
-// A field that a walk keeps.
-#[derive(Clone, Copy)]
-struct Kept {
-    word: u32,
-    bit: u32,
-    start: usize,
-    size: u8,
-}
-
-// A walk over all fields: refused; or how many fields there are, the one of the number asked for (all 0 where there is
-// none), and where the walk stopped if it did.
-#[derive(Clone, Copy)]
-enum Walked {
-    Refused(Refusal),
-    Ended {
-        fields: usize,
-        kept: Kept,
-    },
-    Stopped {
-        fields: usize,
-        kept: Kept,
-        word: u32,
-        bit: u32,
-    },
+    let head = radiotap::opened(s, edition)?;
+    walk(s, radiotap_table::reading(edition), head, number)
 }
 
 // Walks over all fields behind a head in the edition taken, and keeps the field of a number: one pass.
-fn walk(s: &[u8], taken: u32, head: Head, number: usize) -> Walked
+fn walk(s: &[u8], taken: u32, head: Head, number: usize) -> Result<FieldAnswer, Refusal>
     requires { head_at s.now ≡ given head }
-    ensures result_value { walk_says s.now result ≡ outcome number (read_words our_rules taken s.now head.size (presence_words s.now head.size)) }
-    ensures kept_inside { KeptInside s.now result }
+    ensures result_value { field_says s.now result ≡ field_of (read_words our_rules taken s.now head.size (presence_words s.now head.size)) number }
+    ensures field_sized { FieldSized s.now result }
 {
     let mut cursor = radiotap_head::start(head);
-    let mut fields = 0;
-    let mut kept = Kept {
-        word: 0,
-        bit: 0,
-        start: 0,
-        size: 0,
-    };
+    let mut fields: usize = 0;
+    let mut kept = None;
+    // Goes from cursor to cursor: a step also ends the walk by a refusal or a stop, which an iterator's items don't.
     loop {
-        match radiotap_step::next_taken(s, taken, cursor) {
-            Step::Refused(refusal) => {
-                return Walked::Refused(refusal);
-            }
+        match radiotap_step::next_taken(s, taken, cursor)? {
             Step::End => {
-                return Walked::Ended { fields, kept };
+                return Ok(kept_or(kept, FieldAnswer::End));
             }
-            Step::Stop { word, bit } => {
-                return Walked::Stopped {
-                    fields,
-                    kept,
-                    word,
-                    bit,
-                };
+            Step::Stop(stop) => {
+                return Ok(kept_or(kept, FieldAnswer::Stop(stop)));
             }
-            Step::Field {
-                word,
-                bit,
-                start,
-                size,
-                next,
-            } => {
+            Step::Field(field) => {
                 if fields == number {
-                    kept = Kept {
-                        word,
-                        bit,
-                        start,
-                        size,
-                    };
+                    kept = Some(Shown {
+                        word: field.word,
+                        bit: field.bit,
+                        start: field.start,
+                        size: field.size,
+                    });
                 }
                 fields += 1;
-                cursor = next;
+                cursor = field.next;
             }
         }
     }
 }
 
-// What a walk that kept the field of a number answers for it.
-fn numbered(number: usize, walk: Walked) -> FieldAnswer
-    ensures { NumberedAs number walk result }
+// The field that a walk kept, or the answer where it kept none.
+fn kept_or(kept: Option<Shown>, otherwise: FieldAnswer) -> FieldAnswer
+    ensures { result ≡ KeptOr kept otherwise }
 {
-    match walk {
-        Walked::Refused(refusal) => FieldAnswer::Refused(refusal),
-        Walked::Ended { fields, kept } => {
-            if number < fields {
-                shown(kept)
-            } else {
-                FieldAnswer::End
-            }
-        }
-        Walked::Stopped {
-            fields,
-            kept,
-            word,
-            bit,
-        } => {
-            if number < fields {
-                shown(kept)
-            } else {
-                FieldAnswer::Stop { word, bit }
-            }
-        }
-    }
-}
-
-// The field that a walk kept.
-fn shown(kept: Kept) -> FieldAnswer
-    ensures { result ≡ kept_field kept }
-{
-    FieldAnswer::Field {
-        word: kept.word,
-        bit: kept.bit,
-        start: kept.start,
-        size: kept.size,
+    match kept {
+        Some(field) => FieldAnswer::Field(field),
+        None => otherwise,
     }
 }
 
@@ -173,14 +90,7 @@ pub fn octets_of(s: &[u8], edition: u32, number: usize) -> &[u8]
     ensures { result.now ≡ octets_of_field (field_of (reading our_rules edition s.now) number) }
 {
     match field(s, edition, number) {
-        FieldAnswer::Refused(_) => &s[..0],
-        FieldAnswer::End => &s[..0],
-        FieldAnswer::Stop { word: _, bit: _ } => &s[..0],
-        FieldAnswer::Field {
-            word: _,
-            bit: _,
-            start,
-            size,
-        } => octets::part(s, start, size as usize),
+        Ok(FieldAnswer::Field(field)) => octets::part(s, field.start, field.size as usize),
+        _ => &s[..0],
     }
 }

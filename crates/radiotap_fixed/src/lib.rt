@@ -2,46 +2,28 @@
 #![tactic(auto)]
 
 ghost use Rattle.std.specs.Prelude.{◌≡◌};
+ghost use Rattle.refusals.specs.Says.{says};
 ghost use Rattle.radiotap_rules.specs.Reading.{fixed_header};
-ghost use Rattle.radiotap_fixed.specs.Says.{fixed_says};
 
-use refusals::Refusal;
-
-// The length is below 8 or above the input.
-pub const RADIOTAP_LENGTH: u32 = 9;
+use numbers::Number;
+use refusals::{Reason, Refusal};
 
 // The fixed header: version, pad, length (2), presence word (4).
 pub const FIXED_LENGTH: usize = 8;
 
-// The length that the fixed header gives, or the refusal.
-#[derive(Clone, Copy)]
-pub enum FixedAnswer {
-    Refused(Refusal),
-    Given(u32),
-}
-
-// Judges the fixed header.
-pub fn read(s: &[u8]) -> FixedAnswer
-    ensures { fixed_says result ≡ fixed_header s.now }
+// Judges the fixed header, and answers the length that it gives.
+pub fn read(s: &[u8]) -> Result<u32, Refusal>
+    ensures { says result ≡ fixed_header s.now }
 {
     if s.len() < FIXED_LENGTH {
-        return FixedAnswer::Refused(Refusal {
-            number: refusals::SHORT_HEADER,
-            place: s.len(),
-        });
+        return Err(Reason::ShortHeader.at(s.len()));
     }
     if octets::octet(s, 0, 0) != 0 {
-        return FixedAnswer::Refused(Refusal {
-            number: refusals::VERSION,
-            place: 0,
-        });
+        return Err(Reason::Version.at(0));
     }
-    let size = number_at::le16(s, 2) as u32;
+    let size = u16::le_at(s, 2) as u32;
     if (size as usize) < FIXED_LENGTH || s.len() < size as usize {
-        return FixedAnswer::Refused(Refusal {
-            number: RADIOTAP_LENGTH,
-            place: 2,
-        });
+        return Err(Reason::RadiotapLength.at(2));
     }
-    FixedAnswer::Given(size)
+    Ok(size)
 }

@@ -1,13 +1,13 @@
 -- A presence word by its number, from what stands before the fields.
 -- Assumes nothing.
-use Prim.Native.Nat.{ℕ, ◌+◌, ◌*◌}
+use Prim.Native.Nat.{ℕ, ◌+◌, ◌*◌, ◌≤◌, ◌<◌}
 use mathlib.Core.Path.{◌≡◌, refl, ap, ◌∙◌}
 use mathlib.Core.Bool.{Bool, true, false, cond}
 use mathlib.Core.List.{List}
 use native.Mathlib.Omega.{arith}
 use lib.ListN.{length, get_or}
 use lib.Dec.{ltb}
-use borrow.Author.Tests.{ltb-true}
+use borrow.Author.Tests.{ltb-true, lt-ltb, le-ltb}
 use Rattle.refusals.specs.Refusals.{Answer, refused, given}
 use Rattle.octets.specs.Numbers.{little, number_at}
 use Rattle.radiotap_rules.specs.declared.Head.{Head}
@@ -31,7 +31,7 @@ module _ (s : List ℕ) (k : ℕ) where
       on_fixed (given size) e = on_words size (presence_words s size) e
 
   -- a head given: below its count of words the number at the word's place, and the end from there on
-  pub given_word : {h : Head} → head_at s ≡ given h
+  given_word : {h : Head} → head_at s ≡ given h
       → word_number s k ≡ given (cond (ltb k h.words) (the_word (number_at little 4 s (4 + 4 * k))) no_word)
   unfolding head_at words_in
   given_word {h} e = on_fixed (fixed_header s) e
@@ -54,3 +54,14 @@ module _ (s : List ℕ) (k : ℕ) where
       on_fixed : (x : Answer ℕ) → head_of_fixed s x ≡ given h → Same (words_of_fixed s x)
       on_fixed (refused m p) e = let z : ◌≡◌ {A = ℕ} 0 1 = cc in absurd (omega arith)
       on_fixed (given size) e = on_words size (presence_words s size) refl e
+
+  -- by the test of that count
+  told : {h : Head} → head_at s ≡ given h → (t : Bool) → ltb k h.words ≡ t
+      → word_number s k ≡ given (cond t (the_word (number_at little 4 s (4 + 4 * k))) no_word)
+  told e t test = given_word e ∙ ap (λ (t : Bool). given (cond t (the_word (number_at little 4 s (4 + 4 * k))) no_word)) test
+
+  pub word_below : {h : Head} → head_at s ≡ given h → k < h.words → word_number s k ≡ given (the_word (number_at little 4 s (4 + 4 * k)))
+  word_below {h} e l = told e true (lt-ltb k h.words l)
+
+  pub word_past : {h : Head} → head_at s ≡ given h → h.words ≤ k → word_number s k ≡ given no_word
+  word_past {h} e l = told e false (le-ltb k h.words l)

@@ -190,6 +190,12 @@ module _ (rules : Rules) (ok : table_ok rules ≡ true) (edition word : ℕ) whe
     pub added-unknown : bit < word_bits → lay_of rules edition bit at ≡ unknown_field → writable rules edition word ≡ false
     added-unknown more e = f.known ∙ met-unknown rules edition word f.here more e
 
+    -- a field ends, and the values with it, far below 2^16
+    pub added-small : {start size : ℕ} → bit < word_bits → lay_of rules edition bit at ≡ lies start size → size < 256 → start + size < 65536
+    added-small more e small =
+        let m = met-field rules edition word f.here more ok e in
+        omega (arith, m.near, f.here.low, f.here.high)
+
     -- a field, and the next set bit
     pub added-field : {start size next : ℕ} → bit < word_bits → lay_of rules edition bit at ≡ lies start size → size < 256
         → NextSet word (bit + 1) next → Added rules edition word (start + size) (sum + size) next

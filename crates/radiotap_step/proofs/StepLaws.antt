@@ -4,6 +4,8 @@ use Prim.Native.Nat.{ℕ, zero, suc, ◌+◌, ◌-◌, ◌*◌, ◌≤◌, ◌<�
 use mathlib.Core.Path.{◌≡◌, refl, sym, ap, ◌∙◌, subst}
 use mathlib.Core.Bool.{Bool, true, false, cond, ◌||◌}
 use mathlib.Core.List.{List}
+use Rattle.std.specs.Prelude.{Result}
+use Rattle.refusals.specs.declared.Refusal.{Refusal}
 use native.Mathlib.Omega.{arith}
 use mathlib.Core.Logic.{◌⊎◌, inl, inr}
 use lib.ListN.{get_or}
@@ -315,7 +317,7 @@ module _ (rules : Rules) (edition : ℕ) (s : List ℕ) (c : Cursor) where
               go (no h') = inl (n.clear b low (omega arith))
 
 -- what is met at a bit answers the step that is by where the bit's field lies
-pub answers : (s : List ℕ) (c : Cursor) (word bit bits : ℕ) (lay : Layout) (r : Step) {m : Met} → MeetSays c word bit bits lay r
+pub answers : (s : List ℕ) (c : Cursor) (word bit bits : ℕ) (lay : Layout) (r : Result Step Refusal) {m : Met} → MeetSays c word bit bits lay r
     → m ≡ met_laid s c word bit bits lay → (step_says s r ≡ m) × StepSized r
 answers s c word bit bits lay r says e = (says.0 s ∙ sym e, says.1)
 

@@ -1,11 +1,8 @@
--- The rows of the table as the numbers that an array holds.
-use Rattle.std.specs.Prelude.{ℕ, List, [], ◌∷◌}
-use Rattle.radiotap_rules.specs.Rules.{Row, Rules, row_of}
+-- The rows of the table as the code holds them.
+use Rattle.radiotap_rules.specs.Rules.{row}
+use Rattle.radiotap_rules.specs.Rules.{Row as RuleOf}
+use Rattle.radiotap_table.specs.declared.Row.{Row}
 
--- a row's three numbers
-abbrev pub numbers_of : Row → List ℕ
-numbers_of r = r.alignment ∷ r.size ∷ r.first ∷ []
-
--- the numbers of the row of a bit
-abbrev pub numbers_in : Rules → (n : ℕ) → List ℕ
-numbers_in rules n = numbers_of (row_of rules n)
+-- a row as the rules have it
+abbrev pub in_rules : Row → RuleOf
+in_rules r = row r.alignment r.size r.first

@@ -2,7 +2,7 @@
 #![tactic(auto)]
 
 ghost use Rattle.std.specs.Prelude.{◌≡◌, [], ◌∷◌, ◌++◌, ◌+◌, ◌≤◌, length, replicate};
-ghost use Rattle.refusals.specs.Says.{write_says};
+ghost use Rattle.refusals.specs.Says.{says};
 ghost use Rattle.octets.specs.Numbers.{little, octets_of};
 ghost use Rattle.octets.specs.Parts.{splice, put as put_at};
 ghost use Rattle.radiotap_rules.specs.Table.{our_rules};
@@ -10,14 +10,9 @@ ghost use Rattle.radiotap_rules.specs.Reading.{fixed_length};
 ghost use Rattle.radiotap_rules.specs.Writing.{plan as plan_of, laid, header_octets, writing, written};
 ghost use Rattle.radiotap_write.specs.Says.{Accepted};
 
-use radiotap_plan::{FIXED_LENGTH, Plan, WORD_BITS};
-use radiotap_table::{EDITION_ABOVE, Layout};
-use refusals::WriteAnswer;
-
-// A presence bit that the edition doesn't know, bits 29 to 31 included.
-pub const UNKNOWN_BIT: u32 = 18;
-// Packed values not of the summed length.
-pub const VALUES_LENGTH: u32 = 19;
+use numbers::Number;
+use radiotap_plan::FIXED_LENGTH;
+use refusals::{Reason, Refusal};
 
 // Writes a header: an edition, one presence word, and the values packed without gaps in bit order.
 pub fn write(
@@ -26,29 +21,26 @@ pub fn write(
     edition: u32,
     presence: u32,
     values: &[u8],
-) -> WriteAnswer
-    ensures result_value { write_says result ≡ writing our_rules (length out.old) place edition presence values.now }
+) -> Result<usize, Refusal>
+    ensures result_value { says result ≡ writing our_rules (length out.old) place edition presence values.now }
     ensures out_after { out.new ≡ written our_rules out.old place edition presence values.now }
 {
     if !radiotap_table::served(edition) {
-        return refusals::write_refused(EDITION_ABOVE);
+        return refusals::write_refused(Reason::Edition);
     }
     let taken = radiotap_table::writing(edition);
-    match radiotap_plan::planned(taken, presence) {
-        Plan::Unknown => refusals::write_refused(UNKNOWN_BIT),
-        Plan::Fields { size, summed } => {
-            if values.len() != summed {
-                return refusals::write_refused(VALUES_LENGTH);
-            }
-            let length = size as usize;
-            if !octets::has_room(out.len(), place, length) {
-                return refusals::write_refused(refusals::NO_ROOM);
-            }
-            put_header(out, place, taken, presence, values, size);
-            let next = place + length;
-            WriteAnswer::Written(next)
-        }
+    let Some(plan) = radiotap_plan::planned(taken, presence) else {
+        return refusals::write_refused(Reason::UnknownBit);
+    };
+    if values.len() != plan.summed {
+        return refusals::write_refused(Reason::ValuesLength);
     }
+    let length = plan.size as usize;
+    if !octets::has_room(out.len(), place, length) {
+        return refusals::write_refused(Reason::NoRoom);
+    }
+    put_header(out, place, taken, presence, values, plan.size);
+    Ok(place + length)
 }
 
 // Puts an accepted header of a length, in the edition taken.
@@ -66,11 +58,11 @@ fn put_fixed(out: &mut [u8], place: usize, size: u16, presence: u32)
     ensures { out.new ≡ splice out.old place (0 ∷ 0 ∷ (octets_of little 2 size ++ octets_of little 4 presence)) }
 {
     octets_put::put(out, place, b"\0\0");
-    octets_put::put_le16(out, place + 2, size);
-    octets_put::put_le32(out, place + 4, presence);
+    size.put_le(out, place + 2);
+    presence.put_le(out, place + 4);
 }
 
-// Puts the fields of an accepted header behind its fixed header, from set bit to set bit. (Each is known, so that the
+// Puts the fields of an accepted header behind its fixed header, set bit by set bit. (Each is known, so that the
 // table answers where it lies.)
 fn put_fields(out: &mut [u8], place: usize, taken: u32, presence: u32, values: &[u8])
     requires { Accepted (length out.old) place taken presence values.now }
@@ -78,22 +70,16 @@ fn put_fields(out: &mut [u8], place: usize, taken: u32, presence: u32, values: &
 {
     let mut free = FIXED_LENGTH;
     let mut used = 0;
-    let mut bit = radiotap_bits::next_set(presence, 0);
-    while bit < WORD_BITS {
-        match radiotap_table::lay(taken, bit as usize, free) {
-            Layout::Unknown => {
-                return;
-            }
-            Layout::Lies { start, size } => {
-                let from = free as usize;
-                let long = size as usize;
-                put_pad(out, place + from, start - from);
-                octets_put::put(out, place + start, octets::part(values, used, long));
-                free = (start + long) as u32;
-                used += long;
-                bit = radiotap_bits::next_set(presence, bit + 1);
-            }
-        }
+    for bit in radiotap_bits::set_bits(presence) {
+        let Some(field) = radiotap_table::lay(taken, bit as usize, free) else {
+            return;
+        };
+        let from = free as usize;
+        let long = field.size as usize;
+        put_pad(out, place + from, field.start - from);
+        octets_put::put(out, place + field.start, octets::part(values, used, long));
+        free = (field.start + long) as u32;
+        used += long;
     }
 }
 

@@ -1,9 +1,42 @@
--- What a writer's answer says in document 01's terms, case by case.
-use Rattle.std.specs.Prelude.{ℕ}
-use Rattle.refusals.specs.Refusals.{Answer, refused, given}
-use Rattle.refusals.specs.declared.WriteAnswer.{WriteAnswer}
+-- What a result says in document 01's terms, case by case.
+use Rattle.std.specs.Prelude.{ℕ, Result, Ok, Err}
+use Rattle.refusals.specs.Refusals.{Answer, refused, given, short_header, identification, version, datalink, short_record, included_length, short_packet, no_room, record_place}
+use Rattle.refusals.specs.declared.Reason.{Reason}
+use Rattle.refusals.specs.declared.Refusal.{Refusal}
 
--- a writer: the refusal, or the place after what was written
-abbrev pub write_says : WriteAnswer → Answer ℕ
-write_says (WriteAnswer.Refused r) = refused r.number r.place
-write_says (WriteAnswer.Written next) = given next
+-- the number of each reason: those that several formats give by their names, and those of one format alone
+abbrev pub number_of : Reason → ℕ
+number_of Reason.ShortHeader = short_header
+number_of Reason.Identification = identification
+number_of Reason.Version = version
+number_of Reason.Datalink = datalink
+number_of Reason.ShortRecord = short_record
+number_of Reason.IncludedAboveOriginal = included_length
+number_of Reason.ShortPacket = short_packet
+number_of Reason.RfChannel = 8
+number_of Reason.RadiotapLength = 9
+number_of Reason.WordPastLength = 10
+number_of Reason.NinthWord = 11
+number_of Reason.FieldPastLength = 12
+number_of Reason.NoRoom = no_room
+number_of Reason.Time = 14
+number_of Reason.Edition = 15
+number_of Reason.TallySum = 16
+number_of Reason.RecordPlace = record_place
+number_of Reason.UnknownBit = 18
+number_of Reason.ValuesLength = 19
+number_of Reason.ListingInput = 20
+number_of Reason.ReservedPduType = 21
+number_of Reason.ReservedPhy = 22
+number_of Reason.TallyBroken = 23
+number_of Reason.LongStream = 32
+
+-- a result: the refusal's number and place, or what is given, by what its Ok stands for
+abbrev pub says_by : {A B : Type 0} → (A → B) → Result A Refusal → Answer B
+says_by stands_for (Ok v) = given (stands_for v)
+says_by stands_for (Err r) = refused (number_of r.reason) r.place
+
+-- a result whose Ok is what is given
+abbrev pub says : {A : Type 0} → Result A Refusal → Answer A
+says (Ok v) = given v
+says (Err r) = refused (number_of r.reason) r.place

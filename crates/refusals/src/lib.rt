@@ -1,47 +1,117 @@
-// A refusal, the refusal numbers of document 01 that several formats give, and what a writer answers.
-// A number that one crate alone gives is named in that crate.
+// A refusal: its reason, by document 01's list, and the place in the input that it speaks of.
 #![tactic(auto)]
 
 ghost use Rattle.std.specs.Prelude.{◌≡◌};
 ghost use Rattle.refusals.specs.Refusals.{refused as Refused};
-ghost use Rattle.refusals.specs.Says.{write_says};
+ghost use Rattle.refusals.specs.Says.{number_of, says};
 
-// A refusal: its number, and the place in the input that it speaks of.
-#[derive(Clone, Copy)]
+// Why something is refused. The number is document 01's.
+#[derive(Clone, Copy, Debug, PartialEq, Eq)]
+pub enum Reason {
+    // 1: the input is shorter than the fixed header.
+    ShortHeader,
+    // 2: the identification octets differ.
+    Identification,
+    // 3: the version is another.
+    Version,
+    // 4: the datalink code is not served.
+    Datalink,
+    // 5: fewer octets than a record's header remain where a record starts.
+    ShortRecord,
+    // 6: the included length is above the original length.
+    IncludedAboveOriginal,
+    // 7: the packet octets run past the input, or an LE packet is too short.
+    ShortPacket,
+    // 8: the RF channel is above the highest.
+    RfChannel,
+    // 9: the radiotap length is below 8 or above the input.
+    RadiotapLength,
+    // 10: a presence word runs past the length.
+    WordPastLength,
+    // 11: a ninth presence word is called for.
+    NinthWord,
+    // 12: a known field runs past the length.
+    FieldPastLength,
+    // 13: the output has no room from the given place.
+    NoRoom,
+    // 14: a time cannot be expressed.
+    Time,
+    // 15: the edition is above the newest.
+    Edition,
+    // 16: a tally's sum would pass 2^64 - 1.
+    TallySum,
+    // 17: a record place is outside the part of the input where records lie.
+    RecordPlace,
+    // 18: a presence bit that the edition doesn't know, bits 29 to 31 included.
+    UnknownBit,
+    // 19: packed values not of the summed length.
+    ValuesLength,
+    // 20: the input is above the most octets that are listed.
+    ListingInput,
+    // 21: the PDU type is the reserved one.
+    ReservedPduType,
+    // 22: the PHY is the reserved one.
+    ReservedPhy,
+    // 23: a tally that was not counted from an empty one.
+    TallyBroken,
+    // 32: a chunk takes the stream past 2^63 - 1 octets.
+    LongStream,
+}
+
+impl Reason {
+    // Its number.
+    pub fn number(self) -> u32
+        ensures { result ≡ number_of self }
+    {
+        match self {
+            Reason::ShortHeader => 1,
+            Reason::Identification => 2,
+            Reason::Version => 3,
+            Reason::Datalink => 4,
+            Reason::ShortRecord => 5,
+            Reason::IncludedAboveOriginal => 6,
+            Reason::ShortPacket => 7,
+            Reason::RfChannel => 8,
+            Reason::RadiotapLength => 9,
+            Reason::WordPastLength => 10,
+            Reason::NinthWord => 11,
+            Reason::FieldPastLength => 12,
+            Reason::NoRoom => 13,
+            Reason::Time => 14,
+            Reason::Edition => 15,
+            Reason::TallySum => 16,
+            Reason::RecordPlace => 17,
+            Reason::UnknownBit => 18,
+            Reason::ValuesLength => 19,
+            Reason::ListingInput => 20,
+            Reason::ReservedPduType => 21,
+            Reason::ReservedPhy => 22,
+            Reason::TallyBroken => 23,
+            Reason::LongStream => 32,
+        }
+    }
+
+    // The refusal for it at a place.
+    pub fn at(self, place: usize) -> Refusal
+        ensures { result ≡ record { reason = self; place = place } }
+    {
+        Refusal {
+            reason: self,
+            place,
+        }
+    }
+}
+
+// A refusal: its reason, and the place in the input that it speaks of.
+#[derive(Clone, Copy, Debug, PartialEq, Eq)]
 pub struct Refusal {
-    pub number: u32,
+    pub reason: Reason,
     pub place: usize,
 }
 
-// The input is shorter than the fixed header.
-pub const SHORT_HEADER: u32 = 1;
-// The identification octets differ.
-pub const IDENTIFICATION: u32 = 2;
-// The version is another.
-pub const VERSION: u32 = 3;
-// The datalink code is not served.
-pub const DATALINK: u32 = 4;
-// Fewer octets than a record's header remain where a record starts.
-pub const SHORT_RECORD: u32 = 5;
-// The included length is above the original length.
-pub const INCLUDED_LENGTH: u32 = 6;
-// The packet octets run past the input, or an LE packet is too short.
-pub const SHORT_PACKET: u32 = 7;
-// The output has no room from the given place.
-pub const NO_ROOM: u32 = 13;
-// A record place is outside the part of the input where records lie.
-pub const RECORD_PLACE: u32 = 17;
-
-// What a writer answers: the refusal, or the place after what was written.
-#[derive(Clone, Copy)]
-pub enum WriteAnswer {
-    Refused(Refusal),
-    Written(usize),
-}
-
 // A writer's refusal, always at place 0.
-pub fn write_refused(number: u32) -> WriteAnswer
-    ensures { write_says result ≡ Refused number 0 }
+pub fn write_refused(reason: Reason) -> Result<usize, Refusal>
+    ensures { says result ≡ Refused (number_of reason) 0 }
 {
-    WriteAnswer::Refused(Refusal { number, place: 0 })
+    Err(reason.at(0))
 }

@@ -6,15 +6,15 @@ use mathlib.Core.Bool.{Bool, true, false, cond}
 use mathlib.Core.List.{List, [], ◌++◌}
 use native.Mathlib.Omega.{arith}
 use native.Mathlib.Decide.{dec_le}
-use native.Mathlib.Nat.{lt_of_not-le, zero-add}
+use native.Mathlib.Nat.{lt_of_not-le}
 use lib.Dec.{leb, ltb}
 use lib.ListN.{length, take, drop, length-drop, take-append-drop}
-use lib.Seq.{length-take-le}
+use lib.Seq.{take_all, length-take-le, take-append-add}
 use borrow.Author.Tests.{ltb-true, ltb-false, le-leb, lt-leb}
 use Rattle.refusals.specs.Refusals.{included_length}
 use Rattle.btsnoop_rules.specs.declared.Numbers.{Numbers}
 use Rattle.btsnoop_rules.specs.Record.{record_length, numbers_at}
-use Rattle.stream_rules.specs.Stream.{most_octets, long_stream, nothing, finished, in_record, in_packet, Outcome, outcome, refuses, after, take_packet, record_taken, take_record, within, take_at}
+use Rattle.stream_rules.specs.Stream.{most_octets, long_stream, nothing, finished, in_record, outcome, refuses, after, take_packet, record_taken, take_record, within, take_at}
 use Rattle.stream_rules.proofs.Fronts.{numbers-front}
 use Rattle.stream_state.proofs.Cases.{within-limit, within_past, record_more, record_full, taken_above, taken-begun, packet-full}
 
@@ -54,34 +54,45 @@ module _ (octets : ℕ) (held c : List ℕ) (short : octets + length c ≤ most_
         ∙ sym (taken-begun octets k n (drop k c) fair)
         ∙ ended
 
--- the packet of a record, from a place in a chunk on
-abbrev pub behind : (all : List ℕ) (reached handed from : ℕ) (c : List ℕ) → Outcome
-behind all reached handed from c =
-    within reached (drop from c) (after from (take_packet reached (numbers_at all 0) handed (drop from c)))
+-- the first 24 octets, where at most so many are held
+front-behind : (h c : List ℕ) → length h ≤ record_length → take record_length (h ++ c) ≡ h ++ take (record_length - length h) c
+front-behind h c few =
+    let room : length h + (record_length - length h) ≡ record_length = omega arith in
+    ap (λ (k : ℕ). take k (h ++ c)) (sym room) ∙ take-append-add h c (record_length - length h)
 
-pub same-behind : (c : List ℕ) {all all' : List ℕ} {reached reached' handed handed' from from' : ℕ}
-    → all ≡ all' → reached ≡ reached' → handed ≡ handed' → from ≡ from'
-    → behind all reached handed from c ≡ behind all' reached' handed' from' c
-same-behind c d e f g = cc
+-- 24 octets held are all of an array
+pub all-held : (held : List ℕ) (count : ℕ) → length held ≡ record_length → length (take count held) ≡ record_length → held ≡ take count held
+all-held held count long full = go (dec_le (length held) count)
+  where
+    go : Dec (length held ≤ count) → held ≡ take count held
+    go (yes h) = sym (take_all count held h)
+    go (no h) = absurd (omega (arith, length-take-le count held (omega (arith, lt_of_not-le h)), lt_of_not-le h))
 
--- a header of which so many octets are held, and the rest is in a chunk inside the longest stream
-module _ (octets have : ℕ) (held h c : List ℕ) (size : have ≡ length h) (front : take have held ≡ h)
-    (short : octets + length c ≤ most_octets) (full : record_length ≤ have + length c)
-    (all : List ℕ) (whole : all ≡ take have held ++ take (record_length - have) c) where
-  numbers : numbers_at all 0 ≡ numbers_at (h ++ take (record_length - have) c) 0
-  numbers = ap (λ (x : List ℕ). numbers_at x 0) (whole ∙ ap (λ (x : List ℕ). x ++ take (record_length - have) c) front)
+-- a header of which octets are held, and the rest is in a chunk inside the longest stream
+module _ (octets : ℕ) (h c : List ℕ) (few : length h ≤ record_length)
+    (short : octets + length c ≤ most_octets) (full : record_length ≤ length h + length c)
+    (all : List ℕ) (whole : all ≡ take record_length (h ++ c)) (k : ℕ) (need : k ≡ record_length - length h) where
+  numbers : numbers_at all 0 ≡ numbers_at (h ++ take k c) 0
+  numbers =
+      ap (λ (x : List ℕ). numbers_at x 0) (whole ∙ front-behind h c few)
+      ∙ ap (λ (j : ℕ). numbers_at (h ++ take j c) 0) (sym need)
 
   pub above_refused : ltb (numbers_at all 0).original (numbers_at all 0).included ≡ true
-      → refuses octets included_length (octets + (record_length - have) - record_length + 4) ≡ take_at (in_record octets h) c
+      → refuses octets included_length (octets + k - record_length + 4) ≡ take_at (in_record octets h) c
   above_refused e =
-      refuses_6 octets h c short (record_length - have) (omega arith) (omega arith) (numbers_at all 0) numbers
+      refuses_6 octets h c short k need full (numbers_at all 0) numbers
       (ltb-true (numbers_at all 0).original (numbers_at all 0).included e)
 
   pub packet-begun : ltb (numbers_at all 0).original (numbers_at all 0).included ≡ false
-      → behind all (octets + (record_length - have)) 0 (record_length - have) c ≡ take_at (in_record octets h) c
+      → within (octets + k) (drop k c) (after k (take_packet (octets + k) (numbers_at all 0) 0 (drop k c))) ≡ take_at (in_record octets h) c
   packet-begun e =
-      begins octets h c short (record_length - have) (omega arith) (omega arith) (numbers_at all 0) numbers (omega arith)
+      begins octets h c short k need full (numbers_at all 0) numbers (omega arith)
       (ltb-false (numbers_at all 0).original (numbers_at all 0).included e)
+
+-- the numbers of a record at the start of a chunk are those in its first 24 octets
+pub front-numbers : (c : List ℕ) → record_length ≤ length c → numbers_at (take record_length c) 0 ≡ numbers_at c 0
+front-numbers c long =
+    sym (numbers-front c (take record_length c) (drop record_length c) 0 (sym (take-append-drop record_length c)) (length-take-le record_length c long))
 
 -- a record that lies whole in a chunk inside the longest stream
 pub whole_record : (octets : ℕ) (c : List ℕ) → octets + length c ≤ most_octets → record_length + (numbers_at c 0).included ≤ length c
@@ -97,8 +108,7 @@ whole_record octets c short full fair =
     let start : octets ≡ octets + record_length - (record_length + 0) = omega arith in
     let next : octets + (record_length + size) ≡ octets + record_length + size = omega arith in
     let all : size ≡ size - 0 = omega arith in
-    let same : n ≡ numbers_at (take record_length c) 0 =
-    numbers-front c (take record_length c) (drop record_length c) 0 (sym (take-append-drop record_length c)) (length-take-le record_length c (omega arith)) in
+    let same : n ≡ numbers_at (take record_length c) 0 = sym (front-numbers c (omega arith)) in
     ap (λ (p : ℕ). outcome (record_length + size) (finished p n 0 (take size rest)) (in_record (octets + (record_length + size)) [])) start
     ∙ ap (λ (q : ℕ). outcome (record_length + size) (finished (octets + record_length - (record_length + 0)) n 0 (take size rest)) (in_record q [])) next
     ∙ ap (λ (k : ℕ). outcome (record_length + k) (finished (octets + record_length - (record_length + 0)) n 0 (take k rest)) (in_record (octets + record_length + k) [])) all
@@ -123,11 +133,3 @@ goes octets have n few e = elim (dec_le (octets + n) most_octets) [ yes h ↦ in
         let f : true ≡ false = sym (ap (λ (b : Bool). cond b (ltb n (record_length - have)) true) (lt-leb (octets + n) most_octets h)) ∙ e in
         let z : ◌≡◌ {A = ℕ} 0 1 = cc in
         (omega arith, omega arith)
-
--- a packet goes on from the chunk's start
-pub goes_on : (octets : ℕ) (n : Numbers) (done : ℕ) (c : List ℕ)
-    → within octets c (after 0 (take_packet octets n done c)) ≡ take_at (in_packet octets n done) c
-unfolding take_at
-goes_on octets n done c =
-    ap (λ (k : ℕ). within octets c (outcome k (take_packet octets n done c).event (take_packet octets n done c).next))
-    (zero-add (take_packet octets n done c).taken)

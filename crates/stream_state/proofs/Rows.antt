@@ -8,6 +8,8 @@ use native.Mathlib.Omega.{arith}
 use lib.ListN.{length}
 use lib.Dec.{eqb}
 use borrow.Author.Tests.{ne_eqb}
+use Rattle.refusals.specs.declared.Refusal.{Refusal}
+use Rattle.refusals.specs.Says.{number_of}
 use Rattle.octets.specs.Parts.{part as part_of}
 use Rattle.stream_rules.specs.Stream as rules
 use Rattle.stream_rules.specs.Stream.{Outcome, packet_octets, handed, take_at}
@@ -36,6 +38,11 @@ taken_as o state r row says =
 -- an answer to an outcome is one to the same outcome
 pub answers : (r : Taken) {o o' : Outcome} → TakenAs o r → o ≡ o' → TakenAs o' r
 answers r t e = subst (λ (x : Outcome). TakenAs x r) e t
+
+-- a refusal that is known
+pub refused_for : (octets : ℕ) {r r' : Refusal} → r ≡ r'
+    → rules.refuses octets (number_of r.reason) r.place ≡ rules.refuses octets (number_of r'.reason) r'.place
+refused_for octets e = ap (λ (r : Refusal). rules.refuses octets (number_of r.reason) r.place) e
 
 -- some octets are not none
 some : (x : ℕ) (xs : List ℕ) → eqb (length (x ∷ xs)) 0 ≡ false

@@ -2,29 +2,44 @@
 // that the phases share.
 #![tactic(auto)]
 
-ghost use Rattle.std.specs.Prelude.{◌≡◌, [], ◌+◌, ◌-◌, length, take as front, leb};
-ghost use Rattle.octets.specs.Parts.{part as part_of, put as put_at};
-ghost use Rattle.stream_rules.specs.Stream.{most_octets, nothing, datalink, in_record, outcome, refuses, ends, fresh as fresh_stream};
-ghost use Rattle.stream_state.specs.State.{keeps, state_says};
+ghost use Rattle.std.specs.Prelude.{◌≡◌, [], ◌+◌, ◌++◌, ◌≤◌, length, take as front, leb};
+ghost use Rattle.refusals.specs.Says.{number_of};
+ghost use Rattle.octets.specs.Parts.{part as part_of};
+ghost use Rattle.btsnoop_rules.specs.Record.{record_length};
+ghost use Rattle.stream_rules.specs.Stream.{most_octets, nothing as no_event, datalink, in_record, outcome, refuses, ends, fresh as fresh_stream};
+ghost use Rattle.stream_state.specs.State.{phase_number, phase_of, octets_held, bare_state, keeps, state_says};
 ghost use Rattle.stream_state.specs.Rows.{plain_row, TakenAs};
 
 use btsnoop_rules::RECORD_LENGTH;
+use refusals::Refusal;
 
-// A chunk takes the stream past 2^63 - 1 octets.
-pub const LONG_STREAM: u32 = 32;
 // The most octets that a stream may have.
 pub const MOST_OCTETS: usize = 0x7fff_ffff_ffff_ffff;
 
-// The phase: what the next octet belongs to, or the final answer.
-pub const IN_HEADER: u64 = 0;
+// What the next octet belongs to, or the final answer.
+#[derive(Clone, Copy, Debug, PartialEq, Eq)]
+pub enum Phase {
+    Header,
+    Record,
+    Packet,
+    Refused,
+    Ended,
+}
 
-pub const IN_RECORD: u64 = 1;
+// By its number in a lent state; any other number is the end.
+impl From<u64> for Phase {
+    ghost from_gives = { λ number phase. phase ≡ phase_of number };
 
-pub const IN_PACKET: u64 = 2;
-
-pub const REFUSED: u64 = 3;
-
-pub const ENDED: u64 = 4;
+    fn from(number: u64) -> Phase {
+        match number {
+            0 => Phase::Header,
+            1 => Phase::Record,
+            2 => Phase::Packet,
+            3 => Phase::Refused,
+            _ => Phase::Ended,
+        }
+    }
+}
 
 // What is kept between calls: the phase, a refusal's number and place, how many octets of the stream were taken, how
 // many octets of the current header are held, how many of the current packet were handed out, and the octets held.
@@ -64,15 +79,60 @@ pub struct Taken {
     pub state: Stream,
 }
 
+// The octets held of a header: the first so many of 24, or all of them.
+#[derive(Clone, Copy)]
+pub struct Held {
+    pub octets: [u8; 24],
+    pub count: usize,
+}
+
+impl Held {
+    // How many are held.
+    pub fn len(self) -> usize
+        ensures size { result ≡ length (octets_held self) }
+        ensures room { result ≤ record_length }
+    {
+        self.count.min(RECORD_LENGTH)
+    }
+
+    // The octets alone.
+    pub fn as_slice(&self) -> &[u8]
+        ensures { result.now ≡ octets_held self.now }
+    {
+        &self.octets[..self.len()]
+    }
+
+    // As many octets of a chunk behind them as there is room for.
+    pub fn with(self, chunk: &[u8]) -> Held
+        ensures { octets_held result ≡ front record_length (octets_held self ++ chunk.now) }
+    {
+        let have = self.len();
+        let n = chunk.len().min(RECORD_LENGTH - have);
+        let mut octets = self.octets;
+        octets[have..have + n].copy_from_slice(&chunk[..n]);
+        Held {
+            octets,
+            count: have + n,
+        }
+    }
+}
+
 // Before the first octet.
 pub fn fresh() -> Stream
     ensures { state_says result ≡ fresh_stream }
 {
+    kept(Phase::Header, 0)
+}
+
+// A stream of which so many octets were taken, and none held.
+pub fn kept(phase: Phase, octets: usize) -> Stream
+    ensures { result ≡ bare_state phase octets }
+{
     Stream {
-        phase: IN_HEADER,
+        phase: phase as u64,
         number: 0,
         place: 0,
-        octets: 0,
+        octets: octets as u64,
         count: 0,
         done: 0,
         held: [0; 24],
@@ -86,83 +146,19 @@ pub fn part(answer: Taken, chunk: &[u8]) -> &[u8]
     octets::part(chunk, answer.part as usize, answer.size as usize)
 }
 
-// A stream of which header octets are held.
-pub fn holding(phase: u64, held: [u8; 24], count: usize, octets: usize, taken: usize) -> Taken
-    ensures { TakenAs (outcome taken nothing (keeps phase 0 0 octets count 0 held)) result }
-{
-    let state = Stream {
-        phase,
-        number: 0,
-        place: 0,
-        octets: octets as u64,
-        count: count as u64,
-        done: 0,
-        held,
-    };
-    plain(3, 0, 0, taken, 0, state)
-}
-
-// The datalink code, and the stream that awaits a record.
-pub fn accepted(code: u32, octets: usize, taken: usize) -> Taken
-    ensures { TakenAs (outcome taken (datalink code) (in_record octets [])) result }
-{
-    let state = Stream {
-        phase: IN_RECORD,
-        number: 0,
-        place: 0,
-        octets: octets as u64,
-        count: 0,
-        done: 0,
-        held: [0; 24],
-    };
-    plain(5, 0, 0, taken, code, state)
-}
-
-// A refusal, and the stream that gives it again.
-pub fn refused(octets: usize, number: u32, place: usize) -> Taken
-    ensures { TakenAs (refuses octets number place) result }
-{
-    let state = Stream {
-        phase: REFUSED,
-        number: number as u64,
-        place: place as u64,
-        octets: octets as u64,
-        count: 0,
-        done: 0,
-        held: [0; 24],
-    };
-    plain(0, number, place, 0, 0, state)
-}
-
-// The end, and the stream that gives it again.
-pub fn at_end(octets: usize) -> Taken
-    ensures { TakenAs (ends octets) result }
-{
-    let state = Stream {
-        phase: ENDED,
-        number: 0,
-        place: 0,
-        octets: octets as u64,
-        count: 0,
-        done: 0,
-        held: [0; 24],
-    };
-    plain(2, 0, 0, 0, 0, state)
-}
-
-// An answer without packet octets and without a record.
-fn plain(kind: u64, number: u32, place: usize, taken: usize, datalink: u32, state: Stream) -> Taken
-    ensures { result ≡ plain_row kind number place taken datalink state }
+// An answer that hands nothing out. Its kind, as each kind of an answer, is C's number.
+pub fn nothing(taken: usize, state: Stream) -> Taken
+    ensures { result ≡ plain_row 3 0 0 taken 0 state }
 {
     Taken {
-        kind,
-        number: number as u64,
-        place: place as u64,
+        kind: 3,
+        number: 0,
+        place: 0,
         taken: taken as u64,
         part: 0,
         size: 0,
         position: 0,
-        datalink: datalink as u64,
+        datalink: 0,
         start: 0,
         original: 0,
         included: 0,
@@ -173,39 +169,67 @@ fn plain(kind: u64, number: u32, place: usize, taken: usize, datalink: u32, stat
     }
 }
 
-// How many octets are held: at most the 24 that there is room for.
-pub fn octets_held(held: [u8; 24], count: usize) -> usize
-    ensures { result ≡ length (front count held) }
+// A stream of which header octets are held.
+pub fn holding(phase: Phase, held: Held, octets: usize, taken: usize) -> Taken
+    ensures { TakenAs (outcome taken no_event (keeps (phase_number phase) 0 0 octets held.count 0 held.octets)) result }
 {
-    if count < RECORD_LENGTH {
-        count
-    } else {
-        RECORD_LENGTH
+    let all = held.octets;
+    let state = Stream {
+        count: held.count as u64,
+        held: all,
+        ..kept(phase, octets)
+    };
+    nothing(taken, state)
+}
+
+// The datalink code, and the stream that awaits a record.
+pub fn accepted(code: u32, octets: usize, taken: usize) -> Taken
+    ensures { TakenAs (outcome taken (datalink code) (in_record octets [])) result }
+{
+    Taken {
+        kind: 5,
+        datalink: code as u64,
+        ..nothing(taken, kept(Phase::Record, octets))
     }
 }
 
-// Octets held, with the first so many of a chunk behind the first so many of them.
-pub fn filled(held: [u8; 24], have: usize, chunk: &[u8], n: usize) -> [u8; 24]
-    ensures { result ≡ put_at held have (part_of chunk.now 0 n) }
+// A refusal, and the stream that gives it again.
+pub fn refused(octets: usize, refusal: Refusal) -> Taken
+    ensures { TakenAs (refuses octets (number_of refusal.reason) refusal.place) result }
 {
-    let mut all = held;
-    octets_put::put(&mut all, have, octets::part(chunk, 0, n));
-    all
+    refused_by(octets, refusal.reason.number(), refusal.place)
 }
 
-// How many are missing; none where there are more.
-pub fn missing(size: usize, have: usize) -> usize
-    ensures { result ≡ size - have }
+// The same by the refusal's number, which a lent state may hold any of.
+pub fn refused_by(octets: usize, number: u32, place: usize) -> Taken
+    ensures { TakenAs (refuses octets number place) result }
 {
-    if have < size { size - have } else { 0 }
+    let state = Stream {
+        number: number as u64,
+        place: place as u64,
+        ..kept(Phase::Refused, octets)
+    };
+    Taken {
+        kind: 0,
+        number: number as u64,
+        place: place as u64,
+        ..nothing(0, state)
+    }
+}
+
+// The end, and the stream that gives it again.
+pub fn at_end(octets: usize) -> Taken
+    ensures { TakenAs (ends octets) result }
+{
+    Taken {
+        kind: 2,
+        ..nothing(0, kept(Phase::Ended, octets))
+    }
 }
 
 // Whether a chunk of a length ends inside the longest stream.
 pub fn within(octets: usize, length: usize) -> bool
     ensures { result ≡ leb (octets + length) most_octets }
 {
-    if MOST_OCTETS < octets {
-        return false;
-    }
-    length <= MOST_OCTETS - octets
+    octets <= MOST_OCTETS && length <= MOST_OCTETS - octets
 }

@@ -2,13 +2,12 @@
 -- Assumes nothing.
 use Prim.Native.Nat.{ℕ, ◌+◌, ◌≤◌, ◌<◌}
 use native.Mathlib.Omega.{arith}
-use mathlib.Core.Path.{◌≡◌, ap, subst, ◌∙◌}
+use mathlib.Core.Path.{◌≡◌, ap, ◌∙◌}
 use mathlib.Core.Logic.{◌⊎◌, inl, inr}
-use mathlib.Core.List.{List, ◌∷◌, ◌++◌, append_assoc}
+use mathlib.Core.List.{List, ◌++◌}
 use lib.ListN.{length, get_or, length-append}
 use Rattle.octets.specs.Parts.{put, splice}
 use Rattle.octets.proofs.PartLaws.{put-room, length-put, put-elsewhere, splice-splice}
-use Rattle.listing_rules.specs.Lines.{tab}
 use Rattle.text_lines.specs.Wrote.{highest_place, place_behind, Wrote}
 
 -- the place behind is the sum where no place is passed
@@ -61,12 +60,3 @@ pub wrote_text : {before between after : List ℕ} {at middle size next : ℕ} {
     → Wrote before at xs between middle → after ≡ put between middle text → size ≡ length text
     → next ≡ place_behind middle size → middle ≤ next → Wrote before at (xs ++ text) after next
 wrote_text {middle} text first e n b onward = wrote_then first (wrote_is e (b ∙ ap (place_behind middle) n) onward)
-
--- what is written behind two fields
-pub wrote_two : {before between after : List ℕ} {at middle next : ℕ} (xs ys zs : List ℕ)
-    → Wrote before at (tab ∷ (xs ++ (tab ∷ ys))) between middle → Wrote between middle zs after next
-    → Wrote before at (tab ∷ (xs ++ (tab ∷ (ys ++ zs)))) after next
-wrote_two {before} {between} {after} {at} {middle} {next} xs ys zs first second =
-    subst (λ (all : List ℕ). Wrote before at (tab ∷ all) after next)
-    (append_assoc xs (tab ∷ ys) zs)
-    (wrote_then first second)

@@ -49,6 +49,11 @@ pub signed_above : (b n : ℕ) → 2 ^ (b - 1) ≤ n → signed b n ≡ negsuc (
 unfolding signed
 signed_above b n h = ap (λ (t : Bool). cond t (pos n) (negsuc (2 ^ b - suc n))) (le-ltb n (2 ^ (b - 1)) h)
 
+-- a signed number read from bits, as its caller stores it: that of the bits it read
+pub stored : {w : Width} {z : ℤ} {n m : ℕ} → SFits w z → z ≡ signed (bits w) n → n ≡ m
+    → to_z w (of_z w z) ≡ signed (bits w) m
+stored {w} f e same = to_z-of_z f ∙ e ∙ ap (signed (bits w)) same
+
 -- ---- a number by its sign, as the code finds it
 
 -- −(rest + 1), whose bits turned over are rest

@@ -1,12 +1,14 @@
--- Case laws of the stored questions: one for each outcome of a question's length, and of whether it is of a kind.
+-- Case laws of the stored questions: one for each outcome of a question's length, and what stands behind it.
 -- Assumes nothing.
-use Prim.Native.Nat.{ℕ, ◌≤◌, ◌<◌}
-use mathlib.Core.Path.{◌≡◌}
-use mathlib.Core.Bool.{true, false}
+use Prim.Native.Nat.{ℕ, ◌+◌, ◌≤◌, ◌<◌}
+use native.Mathlib.Omega.{arith}
+use mathlib.Core.Path.{◌≡◌, sym, ap, ◌∙◌}
 use mathlib.Core.List.{List}
-use lib.ListN.{length}
+use lib.ListN.{length, drop}
 use borrow.Author.Tests.{le-leb, lt-leb}
-use Rattle.vectors.specs.Questions.{whole_length, question_length, is_among}
+use Rattle.std.proofs.lemmas.List.{drop-drop}
+use Rattle.octets.specs.Numbers.{big, number_at}
+use Rattle.vectors.specs.Questions.{whole_length, question_length}
 
 module _ (s : List ℕ) where
   pub no_head : length s < 49 → question_length s ≡ 0
@@ -21,15 +23,12 @@ module _ (s : List ℕ) where
   unfolding question_length
   whole l h = rw (le-leb 49 (length s) l, le-leb (whole_length s) (length s) h)
 
-module _ (low high op : ℕ) where
-  pub below : op < low → is_among low high op ≡ false
-  unfolding is_among
-  below h = rw (lt-leb low op h)
-
-  pub above : low ≤ op → high < op → is_among low high op ≡ false
-  unfolding is_among
-  above l h = rw (le-leb low op l, lt-leb op high h)
-
-  pub among : low ≤ op → op ≤ high → is_among low high op ≡ true
-  unfolding is_among
-  among l h = rw (le-leb low op l, le-leb op high h)
+  -- what is behind it, from what is behind its head and behind the octets of either length
+  pub dropped : {a b : ℕ} {x y z : List ℕ} → a ≡ number_at big 4 s 41 → b ≡ number_at big 4 s 45
+      → x ≡ drop 49 s → y ≡ drop a x → z ≡ drop b y → question_length s ≡ whole_length s → z ≡ drop (question_length s) s
+  dropped {a} {b} ea eb ex ey ez e =
+      let sum : question_length s ≡ 49 + a + b = omega (arith, e, ea, eb) in
+      ez
+      ∙ ap (drop b) (ey ∙ ap (drop a) ex ∙ drop-drop a 49 s)
+      ∙ drop-drop b (49 + a) s
+      ∙ ap (λ (n : ℕ). drop n s) (sym sum)

@@ -3,27 +3,28 @@ ghost use Rattle.std.specs.Prelude.{◌≡◌};
 ghost use Rattle.vectors.specs.Questions.{is_among};
 
 use crate::question_lines;
+use crate::question_lines::Question;
 
-// Writes the answer behind its number; tells whether the question is one of these.
-pub fn answer<'a>(op: u8, q: &[u8], first: &'a [u8], second: &'a [u8]) -> bool
-    ensures { result ≡ is_among 1 5 op }
+// Writes the answer behind its kind; tells whether the question is one of these.
+pub fn answer(question: Question) -> bool
+    ensures { result ≡ is_among 1 5 question.entry.kind }
 {
-    let own = question_lines::is_among(1, 5, op);
+    let own = question.is_among(1, 5);
     if own {
-        read(op, q, first, second);
+        read(question);
     }
     own
 }
 
-fn read<'a>(op: u8, q: &[u8], first: &'a [u8], second: &'a [u8]) {
-    let a = number_at::be64(q, 1) as usize;
-    let b = number_at::be64(q, 9) as usize;
-    match op {
-        1 => header(first),
-        2 => check(first),
-        3 => record(first, a),
-        4 => survey(first, a, b),
-        _ => earlier(first, a, second, b),
+fn read(question: Question) {
+    let a = question.parameters[0] as usize;
+    let b = question.parameters[1] as usize;
+    match question.kind {
+        1 => header(question.first),
+        2 => check(question.first),
+        3 => record(question.first, a),
+        4 => survey(question.first, a, b),
+        _ => earlier(question.first, a, question.second, b),
     }
 }
 
@@ -39,7 +40,7 @@ fn check(s: &[u8]) {
 
 fn record(s: &[u8], place: usize) {
     let r = zalghimo::zalghimo_btsnoop_record(s, place);
-    let time = twos_complement::unsigned64(r.time);
+    let time = r.time.cast_unsigned();
     question_lines::numbers(&[
         r.kind, r.number, r.place, r.original, r.included, r.flags, r.drops, time, r.packet, r.next,
     ]);

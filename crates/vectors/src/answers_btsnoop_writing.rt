@@ -3,42 +3,46 @@ ghost use Rattle.std.specs.Prelude.{◌≡◌};
 ghost use Rattle.vectors.specs.Questions.{is_among};
 
 use crate::question_lines;
-use crate::question_lines::{low32, signed};
+use crate::question_lines::{Question, low32, room, within};
 use boundary_write::Written;
 
-// Writes the answer behind its number; tells whether the question is one of these.
-pub fn answer(op: u8, q: &[u8], first: &[u8], second: &[u8]) -> bool
-    ensures { result ≡ is_among 6 10 op }
+// Writes the answer behind its kind; tells whether the question is one of these.
+pub fn answer(question: Question) -> bool
+    ensures { result ≡ is_among 6 10 question.entry.kind }
 {
-    let own = question_lines::is_among(6, 10, op);
+    let own = question.is_among(6, 10);
     if own {
-        write(op, q, first, second);
+        write(question);
     }
     own
 }
 
-fn write(op: u8, q: &[u8], first: &[u8], second: &[u8]) {
-    let a = number_at::be64(q, 1);
-    let b = number_at::be64(q, 9);
-    match op {
+fn write(question: Question) {
+    let a = question.parameters[0];
+    let b = question.parameters[1];
+    match question.kind {
         6 => read_time(a),
         7 => write_time(a, b),
         8 => drops(a, b),
-        9 => write_header(first, a as usize, b),
-        _ => write_record(q, first, second),
+        9 => write_header(question.first, a as usize, b),
+        _ => write_record(question),
     }
 }
 
 fn read_time(field: u64) {
-    let r = zalghimo::zalghimo_btsnoop_read_time(signed(field));
-    let seconds = twos_complement::unsigned64(r.seconds);
-    question_lines::numbers(&[r.kind, r.number, r.place, seconds, r.microseconds]);
+    let r = zalghimo::zalghimo_btsnoop_read_time(field.cast_signed());
+    question_lines::numbers(&[
+        r.kind,
+        r.number,
+        r.place,
+        r.seconds.cast_unsigned(),
+        r.microseconds,
+    ]);
 }
 
 fn write_time(seconds: u64, microseconds: u64) {
-    let r = zalghimo::zalghimo_btsnoop_write_time(signed(seconds), low32(microseconds));
-    let field = twos_complement::unsigned64(r.field);
-    question_lines::numbers(&[r.kind, r.number, r.place, field]);
+    let r = zalghimo::zalghimo_btsnoop_write_time(seconds.cast_signed(), low32(microseconds));
+    question_lines::numbers(&[r.kind, r.number, r.place, r.field.cast_unsigned()]);
 }
 
 fn drops(earlier: u64, later: u64) {
@@ -47,31 +51,24 @@ fn drops(earlier: u64, later: u64) {
 }
 
 fn write_header(before: &[u8], place: usize, datalink: u64) {
-    let mut room = question_lines::room(before);
-    let size = question_lines::within(before.len(), &room);
-    write_header_into(&mut room[..size], place, datalink);
-}
-
-fn write_header_into(out: &mut [u8], place: usize, datalink: u64) {
+    let mut room = room(before);
+    let out = &mut room[..within(before)];
     let r = zalghimo::zalghimo_btsnoop_write_header(out, place, low32(datalink));
     written(r, out);
 }
 
-fn write_record(q: &[u8], before: &[u8], packet: &[u8]) {
-    let mut room = question_lines::room(before);
-    let size = question_lines::within(before.len(), &room);
-    write_record_into(q, &mut room[..size], packet);
-}
-
-fn write_record_into(q: &[u8], out: &mut [u8], packet: &[u8]) {
+fn write_record(question: Question) {
+    let mut room = room(question.first);
+    let out = &mut room[..within(question.first)];
+    let [place, original, flags, drops, time] = question.parameters;
     let r = zalghimo::zalghimo_btsnoop_write_record(
         out,
-        number_at::be64(q, 1) as usize,
-        low32(number_at::be64(q, 9)),
-        low32(number_at::be64(q, 17)),
-        low32(number_at::be64(q, 25)),
-        signed(number_at::be64(q, 33)),
-        packet,
+        place as usize,
+        low32(original),
+        low32(flags),
+        low32(drops),
+        time.cast_signed(),
+        question.second,
     );
     written(r, out);
 }

@@ -3,65 +3,51 @@ ghost use Rattle.std.specs.Prelude.{◌≡◌};
 ghost use Rattle.vectors.specs.Questions.{is_among};
 
 use crate::question_lines;
-use crate::question_lines::low32;
+use crate::question_lines::{Question, low16, low32, room, within};
+use numbers::Number;
 
-// Writes the answer behind its number; tells whether the question is this one.
-pub fn answer(op: u8, q: &[u8], first: &[u8]) -> bool
-    ensures { result ≡ is_among 19 19 op }
+// Writes the answer behind its kind; tells whether the question is this one.
+pub fn answer(question: Question) -> bool
+    ensures { result ≡ is_among 19 19 question.entry.kind }
 {
-    let own = question_lines::is_among(19, 19, op);
+    let own = question.is_among(19, 19);
     if own {
-        numbers(number_at::be64(q, 1), number_at::be64(q, 9) as usize, first);
+        numbers(question);
     }
     own
 }
 
-// A number in every form: 0 to 2 are big-endian of 16, 32 and 64 bits, 3 to 5 little-endian.
-fn numbers(n: u64, place: usize, before: &[u8]) {
-    number(0, n, place, before);
-    number(1, n, place, before);
-    number(2, n, place, before);
-    number(3, n, place, before);
-    number(4, n, place, before);
-    number(5, n, place, before);
+// The number in every form: of 16, 32 and 64 bits, most significant octet first and then least.
+fn numbers(question: Question) {
+    let n = question.parameters[0];
+    big(low16(n), question);
+    big(low32(n), question);
+    big(n, question);
+    little(low16(n), question);
+    little(low32(n), question);
+    little(n, question);
 }
 
-// A number in one form, in an output of its own.
-fn number(form: u8, n: u64, place: usize, before: &[u8]) {
-    let mut room = question_lines::room(before);
-    let size = question_lines::within(before.len(), &room);
-    number_into(form, n, place, &mut room[..size]);
+// A number, most significant octet first, in an output of its own.
+fn big<T: Number + Into<u64>>(n: T, question: Question) {
+    let mut room = room(question.first);
+    let out = &mut room[..within(question.first)];
+    let place = question.parameters[1] as usize;
+    n.put_be(out, place);
+    shown(T::be_at(out, place).into(), out);
+}
+
+// A number, least significant octet first, in an output of its own.
+fn little<T: Number + Into<u64>>(n: T, question: Question) {
+    let mut room = room(question.first);
+    let out = &mut room[..within(question.first)];
+    let place = question.parameters[1] as usize;
+    n.put_le(out, place);
+    shown(T::le_at(out, place).into(), out);
 }
 
 // The number read back, and the whole output.
-fn number_into(form: u8, n: u64, place: usize, out: &mut [u8]) {
-    put(form, n, place, out);
-    question_lines::numbers(&[read(form, place, out)]);
+fn shown(n: u64, out: &[u8]) {
+    question_lines::numbers(&[n]);
     question_lines::octets(out);
-}
-
-fn put(form: u8, n: u64, place: usize, out: &mut [u8]) {
-    match form {
-        0 => octets_put::put_be16(out, place, low16(n)),
-        1 => octets_put::put_be32(out, place, low32(n)),
-        2 => octets_put::put_be64(out, place, n),
-        3 => octets_put::put_le16(out, place, low16(n)),
-        4 => octets_put::put_le32(out, place, low32(n)),
-        _ => octets_put::put_le64(out, place, n),
-    }
-}
-
-fn read(form: u8, place: usize, s: &[u8]) -> u64 {
-    match form {
-        0 => number_at::be16(s, place) as u64,
-        1 => number_at::be32(s, place) as u64,
-        2 => number_at::be64(s, place),
-        3 => number_at::le16(s, place) as u64,
-        4 => number_at::le32(s, place) as u64,
-        _ => number_at::le64(s, place),
-    }
-}
-
-fn low16(n: u64) -> u16 {
-    (n % 65536) as u16
 }

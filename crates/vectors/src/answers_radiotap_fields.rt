@@ -6,21 +6,20 @@ ghost use Rattle.radiotap_place.specs.Places.{fresh_place, moved_on, answer_at};
 ghost use Rattle.vectors.specs.Questions.{is_among};
 
 use crate::question_lines;
-use crate::question_lines::low32;
+use crate::question_lines::{Question, low32};
 use radiotap_dbm::DbmAnswer;
+use radiotap_reader::FieldReader;
 use radiotap_step::Step;
+use refusals::Refusal;
 
-// Writes the answer behind its number; tells whether the question is this one.
-pub fn answer(op: u8, q: &[u8], first: &[u8]) -> bool
-    ensures { result ≡ is_among 14 14 op }
+// Writes the answer behind its kind; tells whether the question is this one.
+pub fn answer(question: Question) -> bool
+    ensures { result ≡ is_among 14 14 question.entry.kind }
 {
-    let own = question_lines::is_among(14, 14, op);
+    let own = question.is_among(14, 14);
     if own {
-        field(
-            first,
-            low32(number_at::be64(q, 1)),
-            number_at::be64(q, 9) as usize,
-        );
+        let [edition, number, _, _, _] = question.parameters;
+        field(question.first, low32(edition), number as usize);
     }
     own
 }
@@ -37,54 +36,58 @@ fn field(s: &[u8], edition: u32, number: usize) {
 }
 
 // What a reader answers that is made over octets and moved on once.
-fn moved_once(s: &[u8], edition: u32) -> Step
+fn moved_once(s: &[u8], edition: u32) -> Result<Step, Refusal>
     ensures { step_says s.now result ≡ answer_at our_rules edition s.now (moved_on our_rules edition s.now (fresh_place our_rules edition s.now)) }
 {
-    radiotap_reader::next(radiotap_reader::moved(radiotap_reader::new(s, edition)))
+    FieldReader::new(s, edition).moved().next()
 }
 
 // Kind, number, place, word, bit and value; kind 5 is a field that is no dBm field.
-fn dbm(answer: DbmAnswer) {
+fn dbm(answer: Result<DbmAnswer, Refusal>) {
     match answer {
-        DbmAnswer::Refused(refusal) => {
-            question_lines::numbers(&[0, refusal.number as u64, refusal.place as u64, 0, 0, 0]);
+        Err(refusal) => {
+            let number = refusal.reason.number() as u64;
+            question_lines::numbers(&[0, number, refusal.place as u64, 0, 0, 0]);
         }
-        DbmAnswer::End => {
+        Ok(DbmAnswer::End) => {
             question_lines::numbers(&[2, 0, 0, 0, 0, 0]);
         }
-        DbmAnswer::Stop { word, bit } => {
-            question_lines::numbers(&[4, 0, 0, word as u64, bit as u64, 0]);
+        Ok(DbmAnswer::Stop(stop)) => {
+            question_lines::numbers(&[4, 0, 0, stop.word as u64, stop.bit as u64, 0]);
         }
-        DbmAnswer::NotDbm => {
+        Ok(DbmAnswer::NotDbm) => {
             question_lines::numbers(&[5, 0, 0, 0, 0, 0]);
         }
-        DbmAnswer::Dbm(value) => {
-            let power = twos_complement::unsigned64(twos_complement::wide(value));
+        Ok(DbmAnswer::Dbm(value)) => {
+            let power = i64::from(value).cast_unsigned();
             question_lines::numbers(&[1, 0, 0, 0, 0, power]);
         }
     }
 }
 
 // Kind, number, place, word, bit, start and size.
-fn step(answer: Step) {
+fn step(answer: Result<Step, Refusal>) {
     match answer {
-        Step::Refused(refusal) => {
-            question_lines::numbers(&[0, refusal.number as u64, refusal.place as u64, 0, 0, 0, 0]);
+        Err(refusal) => {
+            let number = refusal.reason.number() as u64;
+            question_lines::numbers(&[0, number, refusal.place as u64, 0, 0, 0, 0]);
         }
-        Step::End => {
+        Ok(Step::End) => {
             question_lines::numbers(&[2, 0, 0, 0, 0, 0, 0]);
         }
-        Step::Stop { word, bit } => {
-            question_lines::numbers(&[4, 0, 0, word as u64, bit as u64, 0, 0]);
+        Ok(Step::Stop(stop)) => {
+            question_lines::numbers(&[4, 0, 0, stop.word as u64, stop.bit as u64, 0, 0]);
         }
-        Step::Field {
-            word,
-            bit,
-            start,
-            size,
-            next: _,
-        } => {
-            question_lines::numbers(&[1, 0, 0, word as u64, bit as u64, start as u64, size as u64]);
+        Ok(Step::Field(field)) => {
+            question_lines::numbers(&[
+                1,
+                0,
+                0,
+                field.word as u64,
+                field.bit as u64,
+                field.start as u64,
+                field.size as u64,
+            ]);
         }
     }
 }

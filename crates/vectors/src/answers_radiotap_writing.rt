@@ -3,32 +3,29 @@ ghost use Rattle.std.specs.Prelude.{◌≡◌};
 ghost use Rattle.vectors.specs.Questions.{is_among};
 
 use crate::question_lines;
-use crate::question_lines::low32;
+use crate::question_lines::{Question, low32, room, within};
 
-// Writes the answer behind its number; tells whether the question is this one.
-pub fn answer(op: u8, q: &[u8], first: &[u8], second: &[u8]) -> bool
-    ensures { result ≡ is_among 15 15 op }
+// Writes the answer behind its kind; tells whether the question is this one.
+pub fn answer(question: Question) -> bool
+    ensures { result ≡ is_among 15 15 question.entry.kind }
 {
-    let own = question_lines::is_among(15, 15, op);
+    let own = question.is_among(15, 15);
     if own {
-        write(q, first, second);
+        write(question);
     }
     own
 }
 
-fn write(q: &[u8], before: &[u8], values: &[u8]) {
-    let mut room = question_lines::room(before);
-    let size = question_lines::within(before.len(), &room);
-    write_into(q, &mut room[..size], values);
-}
-
-fn write_into(q: &[u8], out: &mut [u8], values: &[u8]) {
+fn write(question: Question) {
+    let mut room = room(question.first);
+    let out = &mut room[..within(question.first)];
+    let [place, edition, presence, _, _] = question.parameters;
     let r = zalghimo::zalghimo_radiotap_write(
         out,
-        number_at::be64(q, 1) as usize,
-        low32(number_at::be64(q, 9)),
-        low32(number_at::be64(q, 17)),
-        values,
+        place as usize,
+        low32(edition),
+        low32(presence),
+        question.second,
     );
     question_lines::numbers(&[r.kind, r.number, r.place, r.next]);
     question_lines::octets(out);

@@ -3,55 +3,45 @@ ghost use Rattle.std.specs.Prelude.{◌≡◌};
 ghost use Rattle.vectors.specs.Questions.{is_among};
 
 use crate::question_lines;
+use crate::question_lines::Question;
 use stream_state::{Stream, Taken};
 
-// Writes the answer behind its number; tells whether the question is this one.
-pub fn answer(op: u8, q: &[u8], first: &[u8], second: &[u8]) -> bool
-    ensures { result ≡ is_among 20 20 op }
+// Writes the answer behind its kind; tells whether the question is this one.
+pub fn answer(question: Question) -> bool
+    ensures { result ≡ is_among 20 20 question.entry.kind }
 {
-    let own = question_lines::is_among(20, 20, op);
+    let own = question.is_among(20, 20);
     if own {
-        stream(fresh(number_at::be64(q, 1)), first, second);
+        stream(
+            fresh(question.parameters[0]),
+            question.first,
+            question.second,
+        );
     }
     own
 }
 
 // The state before the first octet, in which so many octets are said to have been taken.
 fn fresh(octets: u64) -> Stream {
-    let state = zalghimo::stream::zalghimo_stream_fresh();
-    let held = state.held;
     Stream {
-        phase: state.phase,
-        number: state.number,
-        place: state.place,
         octets,
-        count: state.count,
-        done: state.done,
-        held,
+        ..zalghimo::stream::zalghimo_stream_fresh()
     }
 }
 
 // A stream in chunks of these lengths; then its end, a chunk of all that is left, and its end again.
 fn stream(first: Stream, s: &[u8], lengths: &[u8]) {
     let mut state = first;
-    let mut at = 0;
-    let mut i = 0;
-    while i < lengths.len() {
-        let left = s.len() - at;
-        let length = octets::octet(lengths, i, 0) as usize;
-        let r = take(
-            state,
-            octets::part(s, at, question_lines::least(length, left)),
-        );
-        let taken = r.taken as usize;
-        if left < taken {
+    let mut left = s;
+    for &length in lengths {
+        let r = take(state, &left[..left.len().min(length as usize)]);
+        let Some((_, behind)) = left.split_at_checked(r.taken as usize) else {
             return;
-        }
-        at += taken;
+        };
+        left = behind;
         state = r.state;
-        i += 1;
     }
-    over(state, octets::part(s, at, s.len()));
+    over(state, left);
 }
 
 // The end, a chunk behind it, and the end again.
@@ -78,7 +68,6 @@ fn end(state: Stream) -> Taken {
 
 // The numbers of an answer, and how many octets the state says were taken.
 fn shown(r: Taken) {
-    let time = twos_complement::unsigned64(r.time);
     question_lines::numbers(&[
         r.kind,
         r.number,
@@ -93,7 +82,7 @@ fn shown(r: Taken) {
         r.included,
         r.flags,
         r.drops,
-        time,
+        r.time.cast_unsigned(),
         r.state.octets,
     ]);
 }

@@ -1,46 +1,41 @@
-// Answers the stored questions about the tally: 18.
+// Answers the stored question about the tally: 18.
 ghost use Rattle.std.specs.Prelude.{◌≡◌};
-ghost use Rattle.tally_rules.specs.Tally.{updating};
-ghost use Rattle.tally.specs.Says.{UpdatedSays};
+ghost use Rattle.refusals.specs.Says.{says};
+ghost use Rattle.tally_rules.specs.Tally.{updating, after_update};
 ghost use Rattle.vectors.specs.Questions.{is_among};
 
 use crate::question_lines;
-use crate::question_lines::low32;
+use crate::question_lines::{Question, low32};
 use boundary_tally::Done;
-use tally::Outcome;
+use numbers::Number;
+use refusals::Refusal;
 use tally_rules::{Entry, Tally};
 
-// Writes the answer behind its number; tells whether the question is one of these.
-pub fn answer(op: u8, q: &[u8], first: &[u8]) -> bool
-    ensures { result ≡ is_among 18 18 op }
+// Writes the answer behind its kind; tells whether the question is this one.
+pub fn answer(question: Question) -> bool
+    ensures { result ≡ is_among 18 18 question.entry.kind }
 {
-    let own = question_lines::is_among(18, 18, op);
+    let own = question.is_among(18, 18);
     if own {
-        tally(q, first);
+        tally(question);
     }
     own
 }
 
 // The nine numbers of the tally are the first octets, 8 each; they are lent to the C function, and as a tally.
-fn tally(q: &[u8], first: &[u8]) {
-    let mut numbers = [
-        number_at::be64(first, 0),
-        number_at::be64(first, 8),
-        number_at::be64(first, 16),
-        number_at::be64(first, 24),
-        number_at::be64(first, 32),
-        number_at::be64(first, 40),
-        number_at::be64(first, 48),
-        number_at::be64(first, 56),
-        number_at::be64(first, 64),
-    ];
+fn tally(question: Question) {
+    let mut numbers = [0; 9];
+    for i in 0..9 {
+        numbers[i] = u64::be_at(question.first, 8 * i);
+    }
+    let [original, included, flags, drops, _] = question.parameters;
     let entry = Entry {
-        original: low32(number_at::be64(q, 1)),
-        included: low32(number_at::be64(q, 9)),
-        flags: low32(number_at::be64(q, 17)),
-        drops: low32(number_at::be64(q, 25)),
+        original: low32(original),
+        included: low32(included),
+        flags: low32(flags),
+        drops: low32(drops),
     };
-    let outcome = lent(boundary_tally::tally_of(numbers), entry);
+    let (update, held) = lent(boundary_tally::tally_of(numbers), entry);
     let r = zalghimo::tallying::zalghimo_btsnoop_tally(
         &mut numbers,
         entry.original,
@@ -50,27 +45,23 @@ fn tally(q: &[u8], first: &[u8]) {
     );
     shown(r, numbers);
     shown(
-        boundary_tally::row(outcome),
-        boundary_tally::numbers_of(outcome.tally),
+        boundary_tally::row(update),
+        boundary_tally::numbers_of(held),
     );
 }
 
-// A tally lent to an update, and what the update answers.
-fn lent(tally: Tally, entry: Entry) -> Outcome
-    ensures { UpdatedSays tally (updating tally entry) result }
+// A tally lent to an update: what the update gives, and the tally that it leaves.
+fn lent(tally: Tally, entry: Entry) -> (Result<Tally, Refusal>, Tally)
+    ensures update { says result.0 ≡ updating tally entry }
+    ensures held { result.1 ≡ after_update tally (updating tally entry) }
 {
     let mut held = tally;
-    let answer = tally::update(&mut held, entry);
-    Outcome {
-        tally: held,
-        answer,
-    }
+    let update = tally::update(&mut held, entry);
+    (update.map(|()| held), held)
 }
 
 // An update's answer, and the nine numbers of the tally afterwards.
 fn shown(r: Done, numbers: [u64; 9]) {
-    question_lines::numbers(&[
-        r.kind, r.number, r.place, numbers[0], numbers[1], numbers[2], numbers[3], numbers[4],
-        numbers[5], numbers[6], numbers[7], numbers[8],
-    ]);
+    question_lines::numbers(&[r.kind, r.number, r.place]);
+    question_lines::numbers(&numbers);
 }

@@ -13,71 +13,48 @@ mod answers_stream;
 mod answers_tally;
 mod question_lines;
 
-use question_lines::{QUESTION_LENGTH, STANDARD_INPUT, STANDARD_OUTPUT};
+ghost use Rattle.std.specs.Prelude.{◌≡◌, length};
+
+use question_lines::{Question, STANDARD_INPUT, STANDARD_OUTPUT};
 
 fn main() {
-    let mut space = question_lines::room_for_all();
+    let mut space = room_for_all();
     let n = io::read_full(STANDARD_INPUT, &mut space);
     run(&space[..n]);
 }
 
+// Room for all questions. The `ensures` gives only its length, which lending it needs.
+fn room_for_all() -> [u8; 131072]
+    ensures { 131072 ≡ length result }
+{
+    [0; 131072]
+}
+
 // Answers question after question, as long as whole ones stand there.
 fn run(input: &[u8]) {
-    let mut at = 0;
-    while at < input.len() {
-        let left = input.len() - at;
-        let taken = question_lines::question_length(octets::part(input, at, left));
-        if taken == 0 {
-            return;
-        }
-        if left < taken {
-            return;
-        }
-        answer(octets::part(input, at, taken));
-        at += taken;
+    let mut left = input;
+    while let Some((question, behind)) = Question::split_from(left) {
+        answer(question);
+        left = behind;
     }
 }
 
 // Answers one question on a line.
-fn answer(q: &[u8]) {
-    let op = octets::octet(q, 0, 0);
-    io::print_decimal(STANDARD_OUTPUT, op as u64);
-    let first = number_at::be32(q, 41) as usize;
-    let second = number_at::be32(q, 45) as usize;
-    ask(
-        op,
-        q,
-        octets::part(q, QUESTION_LENGTH, first),
-        octets::part(q, QUESTION_LENGTH + first, second),
-    );
+fn answer(question: Question) {
+    io::print_decimal(STANDARD_OUTPUT, question.kind as u64);
+    ask(question);
     io::write_all(STANDARD_OUTPUT, b"\n");
 }
 
-// Asks one kind after the other, until the question is one of its own.
-fn ask<'a>(op: u8, q: &[u8], first: &'a [u8], second: &'a [u8]) {
-    if answers_btsnoop::answer(op, q, first, second) {
-        return;
-    }
-    if answers_btsnoop_writing::answer(op, q, first, second) {
-        return;
-    }
-    if answers_radiotap::answer(op, q, first, second) {
-        return;
-    }
-    if answers_radiotap_fields::answer(op, q, first) {
-        return;
-    }
-    if answers_radiotap_writing::answer(op, q, first, second) {
-        return;
-    }
-    if answers_le::answer(op, q, first, second) {
-        return;
-    }
-    if answers_tally::answer(op, q, first) {
-        return;
-    }
-    if answers_stream::answer(op, q, first, second) {
-        return;
-    }
-    answers_numbers::answer(op, q, first);
+// Asks one kind after the other, until the question is one of its own; tells whether there is one.
+fn ask(question: Question) -> bool {
+    answers_btsnoop::answer(question)
+        || answers_btsnoop_writing::answer(question)
+        || answers_radiotap::answer(question)
+        || answers_radiotap_fields::answer(question)
+        || answers_radiotap_writing::answer(question)
+        || answers_le::answer(question)
+        || answers_tally::answer(question)
+        || answers_stream::answer(question)
+        || answers_numbers::answer(question)
 }

@@ -18,7 +18,7 @@ pub fn read(input: &[u8]) -> Le
     boundary_le::row(le_header::read(input))
 }
 
-// Writes an LE pseudo-header and its packet into an output at a place.
+// Writes an LE pseudo-header and its packet into an output at a place. C hands the six values one by one.
 pub fn write(
     output: &mut [u8],
     place: usize,

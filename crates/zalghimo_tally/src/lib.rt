@@ -13,7 +13,7 @@ pub fn add(numbers: &mut [u64; 9], original: u32, included: u32, flags: u32, dro
     ensures value { result ≡ done_row (updating (tally_of numbers.old) (entry_of original included flags drops)) }
     ensures numbers_after { numbers.new ≡ tally_after numbers.old (updating (tally_of numbers.old) (entry_of original included flags drops)) }
 {
-    let outcome = tally::updated(
+    let update = tally::updated(
         boundary_tally::tally_of(*numbers),
         Entry {
             original,
@@ -22,6 +22,6 @@ pub fn add(numbers: &mut [u64; 9], original: u32, included: u32, flags: u32, dro
             drops,
         },
     );
-    boundary_tally::put(numbers, outcome);
-    boundary_tally::row(outcome)
+    boundary_tally::put(numbers, update);
+    boundary_tally::row(update)
 }

@@ -6,18 +6,16 @@ use lib.ListN.{length}
 use Rattle.btsnoop_rules.proofs.RecordLaws.{record_below, record_past, record_end, record_short, record_judged_lem}
 use Rattle.boundary_record.proofs.Answers.{row_of}
 use Rattle.boundary_record.proofs.read.Goals as goal
+use Rattle.boundary_record.proofs.read.Goals.{then-place-lt-HEADER_LENGTH-via-then-place-lt-HEADER_LENGTH, then-place-lt-HEADER_LENGTH-via-else-place-lt-HEADER_LENGTH+then-s-place}
 
 pub returns-then-place-lt-HEADER_LENGTH : goal.returns-then-place-lt-HEADER_LENGTH
 returns-then-place-lt-HEADER_LENGTH c =
     let a = c.args in
     row_of c.refused.result _ _ c.refused.ensures
-    (record_below a.s.now a.place (omega arith))
-
-pub returns-then-s-place : goal.returns-then-s-place
-returns-then-s-place c =
-    let a = c.args in
-    row_of c.refused-then-s-place.result _ _ c.refused-then-s-place.ensures
-    (record_past a.s.now a.place (omega arith) (omega arith))
+    (elim c.then-place-lt-HEADER_LENGTH.branch [
+      | then-place-lt-HEADER_LENGTH-via-then-place-lt-HEADER_LENGTH w ↦ record_below a.s.now a.place (omega arith)
+      | then-place-lt-HEADER_LENGTH-via-else-place-lt-HEADER_LENGTH+then-s-place w ↦ record_past a.s.now a.place (omega arith) (omega arith)
+    ])
 
 pub returns-then-place-s : goal.returns-then-place-s
 returns-then-place-s c =

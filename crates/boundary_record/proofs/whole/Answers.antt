@@ -19,6 +19,6 @@ returns c =
     let included : a.included ≡ number_at big 4 a.s.now (a.place + 4) = c.requires.included_value in
     ap (λ (n : Numbers). record_row (given (whole n (a.place + record_length) (a.place + record_length + n.included))))
     (numbers-same original included
-    c.be32.ensures c.be32-2.ensures
+    c.be_at.ensures c.be_at-2.ensures
     (signed64_at a.s.now (a.place + 16) (a.place + 20) (omega arith) (record { sfits = c.signed64.type_inv })
-    c.signed64.ensures c.be32-3.ensures c.be32-4.ensures))
+    c.signed64.ensures c.be_at-3.ensures c.be_at-4.ensures))

@@ -10,7 +10,7 @@ pub returns : goal.returns
 unfolding numbers_at
 returns c =
     let a = c.args in
-    numbers-same c.be32.ensures c.be32-2.ensures
-    c.be32-3.ensures c.be32-4.ensures
+    numbers-same c.be_at.ensures c.be_at-2.ensures
+    c.be_at-3.ensures c.be_at-4.ensures
     (signed64_at a.s.now (a.place + 16) (a.place + 20) (omega arith) (record { sfits = c.signed64.type_inv })
-    c.signed64.ensures c.be32-5.ensures c.be32-6.ensures)
+    c.signed64.ensures c.be_at-5.ensures c.be_at-6.ensures)

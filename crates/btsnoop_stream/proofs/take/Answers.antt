@@ -1,17 +1,30 @@
 -- `btsnoop_stream::take` meets its contract: by the phase.
-use Prim.Native.Nat.{◌%◌, ◌^◌}
-use mathlib.Core.Path.{ap, ◌∙◌}
-use lib.Dec.{eqb}
-use Rattle.stream_rules.specs.Stream.{Stream, take_at}
+use mathlib.Core.Path.{sym, ap, ◌∙◌}
+use Rattle.btsnoop_rules.specs.Record.{numbers_at}
+use Rattle.stream_rules.specs.Stream.{Stream, in_packet, take_at}
 use Rattle.stream_state.proofs.Rows.{answers}
-use Rattle.btsnoop_stream.proofs.Phases.{says-final, taken-again}
+use Rattle.stream_packet.specs.declared.Packet.{Packet}
+use Rattle.stream_packet.proofs.Handings.{goes_on}
+use Rattle.btsnoop_stream.proofs.Phases.{says_in}
 use Rattle.btsnoop_stream.proofs.take.Goals as goal
 
-pub returns-then-state-gt-IN_PACKET : goal.returns-then-state-gt-IN_PACKET
-returns-then-state-gt-IN_PACKET c =
-    let a = c.args in
-    let s = a.chunk.now in
-    let t = a.state in
-    answers c.again.result c.again.ensures
-    (taken-again (eqb t.phase 3) t.octets (t.number % 2 ^ 32) t.place s
-    ∙ ap (λ (st : Stream). take_at st s) (says-final a.state c.if-state-gt-IN_PACKET.true))
+pub returns-in-Packet : goal.returns-in-Packet
+returns-in-Packet c =
+    let s = c.args.chunk.now in
+    let p = c.packet.result in
+    answers c.take_from.result c.take_from.ensures
+    (goes_on p.octets (numbers_at p.header 0) p.done s
+    ∙ ap (λ (q : Packet). take_at (in_packet q.octets (numbers_at q.header 0) q.done) s) c.packet.ensures
+    ∙ ap (λ (st : Stream). take_at st s) (says_in c.args.state (sym c.in-Packet.is ∙ c.from.ensures)))
+
+pub returns-in-Refused : goal.returns-in-Refused
+unfolding take_at
+returns-in-Refused c =
+    answers c.refused_again.result c.refused_again.ensures
+    (ap (λ (st : Stream). take_at st c.args.chunk.now) (says_in c.args.state (sym c.in-Refused.is ∙ c.from.ensures)))
+
+pub returns-in-Ended : goal.returns-in-Ended
+unfolding take_at
+returns-in-Ended c =
+    answers c.at_end.result c.at_end.ensures
+    (ap (λ (st : Stream). take_at st c.args.chunk.now) (says_in c.args.state (sym c.in-Ended.is ∙ c.from.ensures)))

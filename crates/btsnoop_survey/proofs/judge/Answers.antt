@@ -19,39 +19,41 @@ judged s p low high other left = record_judged_lem s p low (lt_of_le-ne high oth
 pub returns-then-place-s : goal.returns-then-place-s
 returns-then-place-s c =
     let a = c.args in
-    record_end a.s.now a.place (omega arith) c.if-place-s.true
+    sym (record_end a.s.now a.place (omega arith) c.if-place-s.true)
 
 pub returns-then-left-lt-RECORD_LENGTH : goal.returns-then-left-lt-RECORD_LENGTH
 returns-then-left-lt-RECORD_LENGTH c =
     let a = c.args in
-    record_short a.s.now a.place (omega arith) (lt_of_le-ne (omega arith) c.if-place-s.false) (omega arith)
+    rw c.at.ensures (sym (record_short a.s.now a.place (omega arith) (lt_of_le-ne (omega arith) c.if-place-s.false) (omega arith)))
 
-pub returns-then-be32-included : goal.returns-then-be32-included
+pub returns-then-be_at-included : goal.returns-then-be_at-included
 unfolding numbers_at
-returns-then-be32-included c =
+returns-then-be_at-included c =
     let a = c.args in
     let n = numbers_at a.s.now a.place in
-    let above : n.original < n.included = omega (arith, c.be32-included.ensures, c.be32.ensures) in
-    judged a.s.now a.place (omega arith) (omega arith) c.if-place-s.false (omega arith)
-    ∙ judged_above (length a.s.now - a.place) a.place n above
+    let above : n.original < n.included = omega (arith, c.be_at-included.ensures, c.be_at.ensures) in
+    rw c.at-then-be_at-included.ensures
+    (sym (judged a.s.now a.place (omega arith) (omega arith) c.if-place-s.false (omega arith)
+    ∙ judged_above (length a.s.now - a.place) a.place n above))
 
 pub returns-then-s-packet : goal.returns-then-s-packet
 unfolding numbers_at
 returns-then-s-packet c =
     let a = c.args in
     let n = numbers_at a.s.now a.place in
-    let fits : n.included ≤ n.original = omega (arith, c.be32-included.ensures, c.be32.ensures) in
-    let past : length a.s.now - a.place < record_length + n.included = omega (arith, c.be32-included.ensures) in
-    judged a.s.now a.place (omega arith) (omega arith) c.if-place-s.false (omega arith)
-    ∙ judged_past (length a.s.now - a.place) a.place n fits past
+    let fits : n.included ≤ n.original = omega (arith, c.be_at-included.ensures, c.be_at.ensures) in
+    let past : length a.s.now - a.place < record_length + n.included = omega (arith, c.be_at-included.ensures) in
+    rw c.at-then-s-packet.ensures
+    (sym (judged a.s.now a.place (omega arith) (omega arith) c.if-place-s.false (omega arith)
+    ∙ judged_past (length a.s.now - a.place) a.place n fits past))
 
 pub returns : goal.returns
 unfolding numbers_at
 returns c =
     let a = c.args in
     let n = numbers_at a.s.now a.place in
-    let fits : n.included ≤ n.original = omega (arith, c.be32-included.ensures, c.be32.ensures) in
-    let enough : record_length + n.included ≤ length a.s.now - a.place = omega (arith, c.be32-included.ensures) in
-    judged a.s.now a.place (omega arith) (omega arith) c.if-place-s.false (omega arith)
-    ∙ judged-whole (length a.s.now - a.place) a.place n fits enough
-    ∙ ap (λ (k : ℕ). given (whole n (a.place + record_length) (a.place + record_length + k))) (sym c.be32-included.ensures)
+    let fits : n.included ≤ n.original = omega (arith, c.be_at-included.ensures, c.be_at.ensures) in
+    let enough : record_length + n.included ≤ length a.s.now - a.place = omega (arith, c.be_at-included.ensures) in
+    ap (λ (k : ℕ). given (whole n (a.place + record_length) (a.place + record_length + k))) c.be_at-included.ensures
+    ∙ sym (judged a.s.now a.place (omega arith) (omega arith) c.if-place-s.false (omega arith)
+    ∙ judged-whole (length a.s.now - a.place) a.place n fits enough)

@@ -11,7 +11,7 @@ unfolding header_octets
 returns c =
     let a = c.args in
     let first = c.put.ensures in
-    let second = c.put_be32.ensures in
-    let third = c.put_be32-2.ensures in
+    let second = c.put_be.ensures in
+    let third = c.put_be-2.ensures in
     put-numbers a.out.now a.place 8 identification_octets refl 4 version_number 4 a.datalink
     (omega arith) first second third

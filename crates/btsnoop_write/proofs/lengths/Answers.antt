@@ -9,7 +9,7 @@ pub returns : goal.returns
 returns c =
     let a = c.args in
     let original = octets_of big 4 a.original in
-    let first = c.put_be32.ensures in
-    let second = c.put_be32-2.ensures in
+    let first = c.put_be.ensures in
+    let second = c.put_be-2.ensures in
     put-number a.out.now a.place 4 original (length-octets_of big 4 a.original) 4 a.included
     (omega arith) first second

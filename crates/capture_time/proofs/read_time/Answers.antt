@@ -23,8 +23,8 @@ returns-then-field-lt-EARLIEST_FIELD c =
 
 pub returns-else-field-lt-EARLIEST_FIELD : goal.returns-else-field-lt-EARLIEST_FIELD
 returns-else-field-lt-EARLIEST_FIELD c =
-    let fits : SFits w64 (unix_microseconds c.args.field) = let f = c.ranges.field in
-    unix_fits _ c.args.field f (held_below f _ c.if-field-lt-EARLIEST_FIELD.false) (omega arith) in
-    c.time_of.ensures
-    ∙ ap (λ (z : ℤ). given (time_of z)) (kept (less c.args.field c.ranges.field _ (omega arith)) fits)
-    ∙ sym (reading-given _ c.args.field (held_below c.ranges.field _ c.if-field-lt-EARLIEST_FIELD.false) (omega arith))
+    let late = held_below c.ranges.field _ c.if-field-lt-EARLIEST_FIELD.false in
+    let fits = unix_fits _ c.args.field c.ranges.field late (omega arith) in
+    ap given
+    (c.of.ensures ∙ ap time_of (kept (less c.args.field c.ranges.field _ (omega arith)) fits))
+    ∙ sym (reading-given _ c.args.field late (omega arith))

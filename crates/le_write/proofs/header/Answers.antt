@@ -9,4 +9,4 @@ returns c =
     let a = c.args in
     let put_first = c.put.ensures ∙ ap (put a.out.now a.place) c.single_octets.ensures in
     header_parts a.out.now a.place a.values c.requires
-    put_first c.put_le32.ensures c.put_le16.ensures
+    put_first c.put_le.ensures c.put_le-2.ensures

@@ -3,6 +3,7 @@ use Prim.Native.Nat.{◌+◌, ◌≤◌}
 use native.Mathlib.Omega.{arith}
 use mathlib.Core.Path.{sym, ap, ◌∙◌}
 use lib.ListN.{length}
+use borrow.Author.Rules.{rules}
 use borrow.Author.Tests.{leb-true}
 use Rattle.refusals.specs.Refusals.{given}
 use Rattle.octets.specs.Parts.{has_room}
@@ -18,13 +19,14 @@ returns-then-has_room c =
     let tested = ap (has_room (length a.output.now) a.place) (sym c.size-size.ensures.value) in
     let room = tested ∙ sym c.has_room.ensures ∙ c.if-has_room.true in
     let inside : a.place + length (listing a.input.now) ≤ length a.output.now = leb-true _ _ room in
-    let w = c.lines.ensures.wrote in
+    let w = c.list.ensures.wrote in
     let low : a.place + length (listing a.input.now) ≤ highest_place = omega arith in
+    let written = w.holds low inside ∙ sym (written_room a.output.now a.place a.input.now room) in
     record {
       result_value =
           ap given (exact a.place (length (listing a.input.now)) w.behind low)
           ∙ sym (writing-room a.output.now a.place a.input.now room);
-      output_after = w.holds low inside ∙ sym (written_room a.output.now a.place a.input.now room);
+      output_after = search rules ∙ written;
     }
 
 pub returns-else-has_room : goal.returns-else-has_room

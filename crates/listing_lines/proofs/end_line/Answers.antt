@@ -5,4 +5,4 @@ use Rattle.listing_lines.proofs.end_line.Goals as goal
 
 pub returns-clause-wrote : goal.returns-clause-wrote
 unfolding end_line
-returns-clause-wrote c = wrote_then c.word-first.ensures.wrote c.last_field.ensures.wrote
+returns-clause-wrote c = wrote_then c.word.ensures.wrote c.last_field.ensures.wrote

@@ -6,4 +6,4 @@ use Rattle.listing_lines.proofs.file_line.Goals as goal
 
 pub returns-clause-wrote : goal.returns-clause-wrote
 unfolding file_line decimal
-returns-clause-wrote c = wrote_then c.word-version.ensures.wrote c.last_field.ensures.wrote
+returns-clause-wrote c = wrote_then c.word.ensures.wrote c.last_field.ensures.wrote

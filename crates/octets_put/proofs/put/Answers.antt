@@ -1,37 +1,29 @@
--- `octets_put::put` meets its contract: the loop has pasted the first octets, and at its end all; without room nothing changes.
-use Prim.Native.Nat.{◌≤◌, ◌-◌, ◌+◌, ◌<◌}
+-- `octets_put::put` meets its contract: with room the part is replaced, and else nothing changes.
+use mathlib.Core.Path.{◌≡◌, sym, ap, ap₂, ◌∙◌}
+use mathlib.Core.Bool.{Bool, cond}
 use native.Mathlib.Omega.{arith}
-use native.Mathlib.Numerals.{add-one}
-use mathlib.Core.Path.{◌≡◌, ap, sym, ◌∙◌}
-use lib.ListN.{length}
-use lib.Seq.{paste, paste-suc}
-use Rattle.octets.proofs.PartLaws.{put-room, put-none, splice-paste}
+use Rattle.std.proofs.Common.{ℕ, ◌+◌, ◌-◌, ◌++◌, length, take, drop, List}
+use mathlib.Core.List.{append_assoc}
+use lib.Seq.{drop-drop}
+use borrow.Rule.Slice.PartMut.{put_mid}
+use Rattle.octets.specs.Parts.{splice, put}
 use Rattle.octets_put.proofs.put.Goals as goal
 
-pub loop-i-preserved : goal.loop-i-preserved
-loop-i-preserved c =
+pub returns-then-has_room : goal.returns-then-has_room
+unfolding put splice
+returns-then-has_room c =
     let a = c.args in
-    let i = c.loop-i.i in
-    let room : a.at + i < length a.out.now = omega arith in
-    let more : i < length a.octets.now = omega arith in
-    (omega arith, rw (c.loop-i.invariant.1, add-one) (paste-suc a.out.now a.at a.octets.now i 0 room more))
+    let n = length a.octets.now in
+    let joined : take a.at a.out.now ++ (a.octets.now ++ drop (a.at + n) a.out.now) ≡ splice a.out.now a.at a.octets.now =
+    sym (append_assoc (take a.at a.out.now) a.octets.now (drop (a.at + n) a.out.now)) in
+    let size : a.at + n - a.at ≡ n = omega arith in
+    ap₂ (λ (k : ℕ) (xs : List ℕ). put_mid a.at k a.out.now xs) size c.copy_from_slice.ensures.after
+    ∙ ap (λ (behind : List ℕ). take a.at a.out.now ++ (a.octets.now ++ behind)) (drop-drop n a.at a.out.now)
+    ∙ joined
+    ∙ sym (ap (λ (t : Bool). cond t (splice a.out.now a.at a.octets.now) a.out.now) (sym c.has_room.ensures ∙ c.if-has_room.true))
 
-pub returns-after-loop-i : goal.returns-after-loop-i
-returns-after-loop-i c =
+pub returns-else-has_room : goal.returns-else-has_room
+unfolding put
+returns-else-has_room c =
     let a = c.args in
-    let all : c.loop-i.i ≡ length a.octets.now = omega arith in
-    let room : a.at + length a.octets.now ≤ length a.out.now = omega arith in
-    c.loop-i.invariant.1
-    ∙ ap (paste a.out.now a.at a.octets.now) all
-    ∙ sym (splice-paste a.out.now a.at a.octets.now)
-    ∙ sym (put-room a.out.now a.at a.octets.now room)
-
-pub returns-else-octets-out : goal.returns-else-octets-out
-returns-else-octets-out c =
-    let a = c.args in
-    sym (put-none a.out.now a.at a.octets.now (omega arith))
-
-pub returns-else-at-out : goal.returns-else-at-out
-returns-else-at-out c =
-    let a = c.args in
-    sym (put-none a.out.now a.at a.octets.now (omega arith))
+    sym (ap (λ (t : Bool). cond t (splice a.out.now a.at a.octets.now) a.out.now) (sym c.has_room.ensures ∙ c.if-has_room.false))

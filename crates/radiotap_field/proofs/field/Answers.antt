@@ -1,23 +1,21 @@
--- `radiotap_field::field` meets its contract: the refusal before the fields, or the field of the number that the walk kept.
-use mathlib.Core.Path.{◌≡◌, sym, ap, ◌∙◌}
-use Rattle.refusals.specs.Refusals.{given}
+-- `radiotap_field::field` meets its contract: the refusal before the fields, or what the walk behind the head answers.
+use mathlib.Core.Path.{sym, ap, ◌∙◌}
+use Rattle.std.proofs.lemmas.Result.{err_from_is_err_and}
 use Rattle.radiotap_rules.specs.Reading.{Reading, field_of}
-use Rattle.radiotap_rules.specs.Steps.{head_at}
-use Rattle.radiotap_head.specs.Says.{head_says}
-use Rattle.radiotap.specs.Says.{opening}
-use Rattle.radiotap.proofs.ReadLaws.{opened_refused}
-use Rattle.radiotap_field.proofs.KeptLaws.{number_by}
+use Rattle.radiotap.proofs.ReadLaws.{opened_refused, opened_walk}
 use Rattle.radiotap_field.proofs.field.Goals as goal
 
-pub returns-in-Refused-clause-result_value : goal.returns-in-Refused-clause-result_value
-returns-in-Refused-clause-result_value c =
+pub returns-in_err-head : goal.returns-in_err-head
+returns-in_err-head c =
     let a = c.args in
-    sym (ap (λ (x : Reading). field_of x a.number) (opened_refused a.edition a.s.now (sym c.opened.ensures ∙ ap head_says c.in-Refused.is)))
+    let p = err_from_is_err_and c.from_residual.result c.from_residual.ensures.1 in
+    record {
+      result_value = rw (p.1, p.2) (sym (ap (λ (x : Reading). field_of x a.number) (opened_refused a.edition a.s.now (sym c.in_err-head.ensures))));
+      field_sized = rw p.1 tt;
+    }
 
-pub returns-in-Given-clause-result_value : goal.returns-in-Given-clause-result_value
-returns-in-Given-clause-result_value c =
+pub returns-clause-result_value : goal.returns-clause-result_value
+returns-clause-result_value c =
     let a = c.args in
-    let h = c.in-Given.head in
-    let there : opening a.edition (head_at a.s.now) ≡ given h = sym c.opened.ensures ∙ ap head_says c.in-Given.is in
-    (c.numbered.ensures a.s.now).0
-    ∙ number_by a.edition a.s.now h there c.reading.result a.number c.reading.ensures _ c.walk.ensures.result_value
+    c.walk.ensures.result_value
+    ∙ ap (λ (x : Reading). field_of x a.number) (opened_walk a.edition a.s.now (sym c.in_ok-head.ensures) c.reading.ensures)

@@ -6,10 +6,10 @@ use Rattle.radiotap_head.proofs.presence.Goals as goal
 pub loop-word-init : goal.loop-word-init
 loop-word-init c =
     let a = c.args in
-    start a.s.now a.size c.le32-first.ensures
+    start a.s.now a.size c.le_at-first.ensures
 
 pub loop-word-preserved : goal.loop-word-preserved
 loop-word-preserved c =
     let a = c.args in
     calls_for_another a.s.now a.size c.loop-word.invariant c.loop-word-test.true
-    (λ e. omega arith) (omega arith) c.le32-word.ensures
+    (λ e. omega arith) (omega arith) c.le_at-word.ensures

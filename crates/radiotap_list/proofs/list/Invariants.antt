@@ -9,15 +9,15 @@ use Rattle.radiotap.proofs.CountLaws.{AtWord, Counting}
 use Rattle.radiotap_list.proofs.ListLaws.{SoFar, Filled}
 use Rattle.radiotap_list.proofs.list.Given as goal
 
-abbrev pub invariant-loop-left : goal.invariant-loop-left
-invariant-loop-left l =
-    (c : Cursor)
-    × Counting l.taken l.s l.known l.size l.head.words c l.index l.left (count_trailing_zeros word_bits l.carried.unknown) l.last l.fields
-    × ((base : List ℕ) → Filled our_rules l.taken l.s l.room (first_cursor l.head) base l.initial.out (min l.initial.fields l.room)
-    → SoFar our_rules l.taken l.s l.room (first_cursor l.head) base l.out c (min l.fields l.room))
-
-abbrev pub decreases-loop-left : goal.decreases-loop-left
-decreases-loop-left l = l.left
+abbrev pub invariant-loop-bit-2 : goal.invariant-loop-bit-2
+invariant-loop-bit-2 l = record {
+  can : (goal.iterator-loop-bit-2).can_next l.bit-iterator;
+  ends : (goal.iterator-loop-bit-2).is_finite l.bit-iterator;
+  counting : (c : Cursor)
+      × Counting l.taken l.s l.known l.size l.head.words c l.index l.bit-iterator.left (count_trailing_zeros word_bits l.carried.unknown) l.last l.fields
+      × ((base : List ℕ) → Filled our_rules l.taken l.s l.room (first_cursor l.head) base l.initial.out (min l.initial.fields l.room)
+      → SoFar our_rules l.taken l.s l.room (first_cursor l.head) base l.out c (min l.fields l.room));
+}
 
 abbrev pub invariant-loop-bit : goal.invariant-loop-bit
 invariant-loop-bit l =

@@ -10,6 +10,6 @@ use Rattle.radiotap_step.proofs.meet.Goals as goal
 pub found-requires : goal.found-requires
 found-requires c =
     let a = c.args in
-    let laid : lay_of our_rules a.taken a.bit a.cursor.at ≡ lies c.in-Lies.start c.in-Lies.size =
-    sym c.lay.ensures ∙ ap lay_says c.in-Lies.is in
+    let laid : lay_of our_rules a.taken a.bit a.cursor.at ≡ lies c.in-Some.laid.start c.in-Some.laid.size =
+    sym c.lay.ensures ∙ ap lay_says c.in-Some.is in
     (c.requires.0, c.requires.1, omega (arith, lay_near our_rules a.bit a.taken a.cursor.at _ _ refl laid))

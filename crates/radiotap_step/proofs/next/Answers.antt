@@ -20,4 +20,4 @@ unfolding step_in
 returns-else-served-clause-result_value c =
     let a = c.args in
     let step : ℕ → Met = λ taken. step_of our_rules taken a.s.now a.cursor in
-    asked-refused our_rules a.edition step (sym c.served.ensures ∙ c.if-served.false)
+    rw c.at.ensures (asked-refused our_rules a.edition step (sym c.served.ensures ∙ c.if-served.false))

@@ -36,5 +36,5 @@ loop-position-preserved-then-bit-lt31 c =
 pub loop-position-preserved : goal.loop-position-preserved
 loop-position-preserved c =
     let a = c.args in
-    subst₂ (Searches our_rules a.taken a.s.now a.cursor _) (sym c.le32-bits.ensures) (sym c.resets-again.ensures)
+    subst₂ (Searches our_rules a.taken a.s.now a.cursor _) (sym c.le_at-bits.ensures) (sym c.resets-again.ensures)
     (next_word our_rules a.taken a.s.now a.cursor c.loop-position.invariant (omega arith) c.next_set-bit.ensures (omega arith))

@@ -7,6 +7,6 @@ pub returns : goal.returns
 returns c =
     let a = c.args in
     let first = c.put.ensures in
-    let second = c.put_le16.ensures in
-    let third = c.put_le32.ensures in
+    let second = c.put_le.ensures in
+    let third = c.put_le-2.ensures in
     fixed_put a.out.now a.place a.size a.presence (omega arith) first second third

@@ -1,10 +1,11 @@
 -- `radiotap_write::write` meets its contract: each way out is one outcome of the write.
 use Prim.Native.Nat.{ℕ, ◌+◌, ◌≤◌}
-use mathlib.Core.Path.{◌≡◌, refl, sym, subst, ◌∙◌}
+use mathlib.Core.Path.{◌≡◌, refl, sym, ◌∙◌}
 use mathlib.Core.List.{List}
 use lib.ListN.{length}
 use native.Mathlib.Omega.{arith}
 use borrow.Author.Tests.{leb-true, leb-false}
+use Rattle.std.specs.Prelude.{Some}
 use Rattle.radiotap_rules.specs.Table.{our_rules}
 use Rattle.radiotap_rules.specs.Writing.{plan, summed, header_octets}
 use Rattle.radiotap_rules.proofs.Planning.{header-ends}
@@ -14,8 +15,8 @@ use Rattle.radiotap_write.proofs.WriteLaws.{write_edition, write_unknown, write_
 use Rattle.radiotap_write.proofs.write.Goals as goal
 
 -- the values that a plan asks for, and the header's length by it
-lengths : (e presence : ℕ) (values : List ℕ) {size sum : ℕ} → PlanSays e presence (Plan.Fields size sum) → length values ≡ sum
-    → (length values ≡ summed (plan our_rules e presence)) × (length (header_octets our_rules e presence values) ≡ size)
+lengths : (e presence : ℕ) (values : List ℕ) {p : Plan} → PlanSays e presence (Some p) → length values ≡ p.summed
+    → (length values ≡ summed (plan our_rules e presence)) × (length (header_octets our_rules e presence values) ≡ p.size)
 lengths e presence values told all =
     let same : length values ≡ summed (plan our_rules e presence) = omega (arith, told.2) in
     (same, header-ends our_rules e presence values refl same ∙ sym told.1)
@@ -27,22 +28,22 @@ returns-then-not-served c =
     let outcome = write_edition our_rules a.out.now a.place a.edition a.presence a.values.now _ refl above in
     record { result_value = c.write_refused.ensures ∙ outcome.0; out_after = outcome.1 }
 
-pub returns-then-values-summed : goal.returns-then-values-summed
-returns-then-values-summed c =
+pub returns-then-values-plan : goal.returns-then-values-plan
+returns-then-values-plan c =
     let edition_served = sym c.served.ensures ∙ c.if-not-served.false in
-    let fields = subst (PlanSays c.writing-taken.result c.args.presence) c.in-Fields.is c.planned.ensures in
+    let fields = c.in-Some.ensures in
     let a = c.args in
     let e = c.writing-taken in
     let outcome =
     write_values our_rules a.out.now a.place a.edition a.presence a.values.now e.result e.ensures
     edition_served fields.0 (λ same. absurd (omega (arith, fields.2))) in
-    record { result_value = c.write_refused-then-values-summed.ensures ∙ outcome.0; out_after = outcome.1 }
+    record { result_value = c.write_refused-then-values-plan.ensures ∙ outcome.0; out_after = outcome.1 }
 
 pub returns-then-not-has_room : goal.returns-then-not-has_room
 returns-then-not-has_room c =
     let edition_served = sym c.served.ensures ∙ c.if-not-served.false in
-    let fields = subst (PlanSays c.writing-taken.result c.args.presence) c.in-Fields.is c.planned.ensures in
-    let long = lengths c.writing-taken.result c.args.presence c.args.values.now fields c.if-values-summed.false in
+    let fields = c.in-Some.ensures in
+    let long = lengths c.writing-taken.result c.args.presence c.args.values.now fields c.if-values-plan.false in
     let a = c.args in
     let e = c.writing-taken in
     let few = leb-false _ _ (sym c.has_room.ensures ∙ c.if-not-has_room.true) in
@@ -53,28 +54,28 @@ returns-then-not-has_room c =
 
 pub put_header-requires : goal.put_header-requires
 put_header-requires c =
-    let fields = subst (PlanSays c.writing-taken.result c.args.presence) c.in-Fields.is c.planned.ensures in
-    let long = lengths c.writing-taken.result c.args.presence c.args.values.now fields c.if-values-summed.false in
-    let room : c.args.place + c.in-Fields.size ≤ length c.args.out.now = leb-true _ _ (sym c.has_room.ensures ∙ c.if-not-has_room.false) in
+    let fields = c.in-Some.ensures in
+    let long = lengths c.writing-taken.result c.args.presence c.args.values.now fields c.if-values-plan.false in
+    let room : c.args.place + c.in-Some.plan.size ≤ length c.args.out.now = leb-true _ _ (sym c.has_room.ensures ∙ c.if-not-has_room.false) in
     (record { known = fields.0; long = long.0; fits = rw long.1 room }, sym long.1)
 
-pub returns-in-Unknown : goal.returns-in-Unknown
-returns-in-Unknown c =
+pub returns-in_default : goal.returns-in_default
+returns-in_default c =
     let edition_served = sym c.served.ensures ∙ c.if-not-served.false in
     let a = c.args in
     let e = c.writing-taken in
-    let unknown = subst (PlanSays e.result a.presence) c.in-Unknown.is c.planned.ensures in
+    let unknown = c.in_default.ensures in
     let outcome =
     write_unknown our_rules a.out.now a.place a.edition a.presence a.values.now e.result e.ensures
     edition_served unknown in
-    record { result_value = c.write_refused-in-Unknown.ensures ∙ outcome.0; out_after = outcome.1 }
+    record { result_value = c.write_refused-in_default.ensures ∙ outcome.0; out_after = outcome.1 }
 
-pub returns-else-not-has_room : goal.returns-else-not-has_room
-returns-else-not-has_room c =
+pub returns : goal.returns
+returns c =
     let edition_served = sym c.served.ensures ∙ c.if-not-served.false in
-    let fields = subst (PlanSays c.writing-taken.result c.args.presence) c.in-Fields.is c.planned.ensures in
-    let long = lengths c.writing-taken.result c.args.presence c.args.values.now fields c.if-values-summed.false in
-    let room : c.args.place + c.in-Fields.size ≤ length c.args.out.now = leb-true _ _ (sym c.has_room.ensures ∙ c.if-not-has_room.false) in
+    let fields = c.in-Some.ensures in
+    let long = lengths c.writing-taken.result c.args.presence c.args.values.now fields c.if-values-plan.false in
+    let room : c.args.place + c.in-Some.plan.size ≤ length c.args.out.now = leb-true _ _ (sym c.has_room.ensures ∙ c.if-not-has_room.false) in
     let a = c.args in
     let e = c.writing-taken in
     let outcome =

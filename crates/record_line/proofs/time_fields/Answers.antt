@@ -5,22 +5,24 @@ use mathlib.Core.List.{◌∷◌}
 use lib.IntN.{ℤ}
 use mir.Syntax.{w64}
 use mir.Val.{to_z, of_z}
-use Rattle.capture_time.specs.declared.TimeAnswer.{TimeAnswer}
-use Rattle.capture_time.specs.Answers.{time_says}
+use Rattle.std.specs.Prelude.{Result}
+use Rattle.capture_time.specs.declared.Time.{Time}
+use Rattle.refusals.specs.declared.Refusal.{Refusal}
+use Rattle.refusals.specs.Says.{says}
 use Rattle.text.specs.Decimal.{signed_decimal}
 use Rattle.listing_rules.specs.Lines.{tab, fields_of, time_fields}
-use Rattle.text_lines.specs.Wrote.{Wrote}
+use Rattle.text_lines.specs.Wrote.{Appends}
 use Rattle.text_lines.proofs.WroteLaws.{wrote_then}
 use Rattle.record_line.proofs.time_fields.Goals as goal
 
-pub returns-in-Time-clause-wrote : goal.returns-in-Time-clause-wrote
-returns-in-Time-clause-wrote c =
-    let a = c.args in
+pub returns-in-Ok-clause-wrote : goal.returns-in-Ok-clause-wrote
+returns-in-Ok-clause-wrote c =
+    let before = c.args.lines.now in
     let f = c.last_field in
-    let s = c.signed_field-next in
-    let same : to_z w64 (of_z w64 c.in-Time.seconds) ≡ c.in-Time.seconds = search rules in
-    subst (λ (t : TimeAnswer). Wrote a.output.now a.at (fields_of (time_fields (time_says t))) f.new.output f.result)
-    (sym c.in-Time.is)
+    let s = c.field in
+    let same : to_z w64 (of_z w64 c.in-Ok.time.seconds) ≡ c.in-Ok.time.seconds = search rules in
+    subst (λ (t : Result Time Refusal). Appends before (fields_of (time_fields (says t))) f.new.self)
+    (sym c.in-Ok.is)
     (wrote_then
-    (subst (λ (z : ℤ). Wrote a.output.now a.at (tab ∷ signed_decimal z) s.new.output s.result) same s.ensures.wrote)
+    (subst (λ (z : ℤ). Appends before (tab ∷ signed_decimal z) s.new.self) same s.ensures.wrote)
     f.ensures.wrote)

@@ -1,34 +1,61 @@
--- `stream_header::take` meets its contract: 32 by the octets taken and the chunk's length, and then the octets held.
-use Prim.Native.Nat.{ℕ, ◌+◌, ◌≤◌}
-use mathlib.Core.Path.{◌≡◌, sym, ap, ◌∙◌}
-use mathlib.Core.List.{List}
+-- `stream_header::take` meets its contract: 32, octets held, or what the header reader answers of all 16.
+use Prim.Native.Nat.{ℕ, ◌+◌, ◌≤◌, ◌<◌}
+use mathlib.Core.Path.{sym, ap, ◌∙◌}
+use native.Mathlib.Omega.{arith}
 use lib.ListN.{length, take}
 use borrow.Author.Tests.{leb-true, leb-false}
-use Rattle.stream_rules.specs.Stream.{most_octets, take_header, take_at}
-use Rattle.stream_state.proofs.Cases.{within-limit, within_past}
-use Rattle.stream_state.proofs.Fills.{front-held}
-use Rattle.stream_state.proofs.Rows.{answers}
+use Rattle.std.specs.Prelude.{Result}
+use Rattle.refusals.specs.declared.Refusal.{Refusal}
+use Rattle.refusals.specs.Says.{says}
+use Rattle.btsnoop_rules.specs.Header.{header_at}
+use Rattle.stream_rules.specs.Stream.{most_octets, header_taken}
+use Rattle.stream_state.proofs.Rows.{answers, refused_for}
+use Rattle.stream_header.proofs.Headers.{past, waits, read}
 use Rattle.stream_header.proofs.take.Goals as goal
 
-pub returns-then-within : goal.returns-then-within
-unfolding take_at
-returns-then-within c =
-    let inside : c.args.octets + length c.args.chunk.now ≤ most_octets = let a = c.args in
-    leb-true (a.octets + length a.chunk.now) most_octets (sym c.within.ensures ∙ c.if-within.true) in
+pub returns-then-not-within : goal.returns-then-not-within
+returns-then-not-within c =
     let a = c.args in
     let s = a.chunk.now in
-    let held = take a.count a.held in
-    let front : take c.octets_held.result a.held ≡ held =
-    ap (λ (k : ℕ). take k a.held) c.octets_held.ensures ∙ front-held a.held a.count in
-    answers c.fill.result c.fill.ensures
-    (ap (λ (h : List ℕ). take_header a.octets h s) front
-    ∙ sym (within-limit a.octets s (take_header a.octets held s) inside))
-
-pub returns-else-within : goal.returns-else-within
-unfolding take_at
-returns-else-within c =
-    let a = c.args in
-    let s = a.chunk.now in
+    let long : most_octets < a.octets + length s =
+    leb-false (a.octets + length s) most_octets (sym c.within.ensures ∙ c.if-not-within.true) in
     answers c.refused.result c.refused.ensures
-    (sym (within_past a.octets s (take_header a.octets (take a.count a.held) s)
-    (leb-false (a.octets + length s) most_octets (sym c.within.ensures ∙ c.if-within.false))))
+    (refused_for a.octets c.at.ensures ∙ past a.octets (take a.held.count a.held.octets) s long)
+
+pub returns-then-chunk-need : goal.returns-then-chunk-need
+returns-then-chunk-need c =
+    let a = c.args in
+    let s = a.chunk.now in
+    let inside : a.octets + length s ≤ most_octets =
+    leb-true (a.octets + length s) most_octets (sym c.within.ensures ∙ c.if-not-within.false) in
+    answers c.holding.result c.holding.ensures
+    (waits a.octets (take a.held.count a.held.octets) s inside _ c.with.ensures
+    (omega (arith, c.len.ensures.size, c.saturating_sub-need.ensures, c.if-chunk-need.true)))
+
+pub returns-in-Ok : goal.returns-in-Ok
+returns-in-Ok c =
+    let a = c.args in
+    let s = a.chunk.now in
+    let k = c.saturating_sub-need.result in
+    let inside : a.octets + length s ≤ most_octets =
+    leb-true (a.octets + length s) most_octets (sym c.within.ensures ∙ c.if-not-within.false) in
+    answers c.accepted.result c.accepted.ensures
+    (ap (λ (r : Result ℕ Refusal). header_taken a.octets k (says r)) (sym c.in-Ok.is)
+    ∙ ap (header_taken a.octets k) (c.read.ensures ∙ ap header_at c.as_slice.ensures)
+    ∙ read a.octets (take a.held.count a.held.octets) s inside k
+    (omega (arith, c.len.ensures.size, c.saturating_sub-need.ensures)) (omega (arith, c.if-chunk-need.false))
+    (omega (arith, c.len.ensures.size, c.len.ensures.room)) _ c.with-whole.ensures)
+
+pub returns-in-Err : goal.returns-in-Err
+returns-in-Err c =
+    let a = c.args in
+    let s = a.chunk.now in
+    let k = c.saturating_sub-need.result in
+    let inside : a.octets + length s ≤ most_octets =
+    leb-true (a.octets + length s) most_octets (sym c.within.ensures ∙ c.if-not-within.false) in
+    answers c.refused-in-Err.result c.refused-in-Err.ensures
+    (ap (λ (r : Result ℕ Refusal). header_taken a.octets k (says r)) (sym c.in-Err.is)
+    ∙ ap (header_taken a.octets k) (c.read.ensures ∙ ap header_at c.as_slice.ensures)
+    ∙ read a.octets (take a.held.count a.held.octets) s inside k
+    (omega (arith, c.len.ensures.size, c.saturating_sub-need.ensures)) (omega (arith, c.if-chunk-need.false))
+    (omega (arith, c.len.ensures.size, c.len.ensures.room)) _ c.with-whole.ensures)

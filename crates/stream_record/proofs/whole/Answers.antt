@@ -1,23 +1,20 @@
--- `stream_record::whole` meets its contract: those of the chunk alone, or put behind those held.
-use Prim.Native.Nat.{◌+◌, ◌-◌}
-use mathlib.Core.Path.{◌≡◌, sym, ap, ◌∙◌}
+-- `stream_record::whole` meets its contract: with octets held, the 24 that are held then.
+use Prim.Native.Nat.{◌≤◌}
+use mathlib.Core.Path.{◌≡◌, ap, ◌∙◌}
 use native.Mathlib.Omega.{arith}
-use lib.ListN.{length, take}
-use lib.Seq.{take_all}
-use Rattle.octets.specs.Parts.{part}
-use Rattle.octets.proofs.PartLaws.{length-put}
+use mathlib.Core.List.{◌++◌}
+use lib.ListN.{length, take, length-append}
+use lib.Seq.{length-take-le}
 use Rattle.btsnoop_rules.specs.Record.{record_length}
-use Rattle.stream_state.proofs.Fills.{front-filled}
+use Rattle.stream_record.proofs.Begins.{all-held}
 use Rattle.stream_record.proofs.whole.Goals as goal
 
-pub returns-else-have-eq0 : goal.returns-else-have-eq0
-returns-else-have-eq0 c =
+pub returns-else-len-eq0 : goal.returns-else-len-eq0
+returns-else-len-eq0 c =
     let a = c.args in
+    let h = take a.held.count a.held.octets in
     let s = a.chunk.now in
-    let k = record_length - a.have in
-    let long : length a.held ≡ record_length = omega arith in
-    let full : length c.filled.result ≡ record_length =
-    ap length c.filled.ensures ∙ length-put a.held a.have (part s 0 k) ∙ long in
-    sym (take_all (a.have + k) c.filled.result (omega arith))
-    ∙ ap (take (a.have + k)) c.filled.ensures
-    ∙ front-filled a.held long s a.have k (omega arith) (omega arith)
+    let t = c.with.result in
+    let long : length t.octets ≡ record_length = omega arith in
+    let enough : record_length ≤ length (h ++ s) = omega (arith, length-append h s, c.requires) in
+    all-held t.octets t.count long (ap length c.with.ensures ∙ length-take-le record_length (h ++ s) enough) ∙ c.with.ensures

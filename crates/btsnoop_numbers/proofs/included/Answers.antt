@@ -1,8 +1,0 @@
--- `btsnoop_numbers::included` meets its contract: the number of its four octets.
-use Rattle.octets.specs.Numbers.{number, number_at}
-use Rattle.btsnoop_rules.specs.Record.{numbers_at}
-use Rattle.btsnoop_numbers.proofs.included.Goals as goal
-
-pub returns : goal.returns
-unfolding numbers_at number_at number
-returns c = c.join32.ensures

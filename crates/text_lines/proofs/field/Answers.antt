@@ -1,9 +1,0 @@
--- `text_lines::field` meets its contract: the tab is written, and behind it the number.
-use Rattle.text_lines.proofs.WroteLaws.{wrote_text}
-use Rattle.text_lines.proofs.field.Goals as goal
-
-pub returns-clause-wrote : goal.returns-clause-wrote
-returns-clause-wrote c =
-    let text = c.put.ensures in
-    let next = c.place_behind.ensures in
-    wrote_text _ c.word-next.ensures.wrote text.out_after text.value next.value next.lower_bound

@@ -1,8 +1,0 @@
--- `text_lines::word` meets its contract: the octets are put, and the place behind them is told.
-use Rattle.text_lines.proofs.WroteLaws.{wrote_is}
-use Rattle.text_lines.proofs.word.Goals as goal
-
-pub returns-clause-wrote : goal.returns-clause-wrote
-returns-clause-wrote c =
-    let next = c.place_behind.ensures in
-    wrote_is c.put.ensures next.value next.lower_bound
