@@ -12,13 +12,27 @@ use std::io::{Read, Write};
 const INPUT_ROOM: usize = 65537;
 
 fn main(rt: HostRuntime) -> io::Result<()> {
-    let mut input = room::<INPUT_ROOM>();
+    let mut input = input_room();
     let read = read_full(&mut rt.stdin(), &mut input)?;
-    let mut output = room::<MOST_LISTED>();
+    let mut output = output_room();
     list(&mut rt.stdout(), &mut output, &input[..read])
 }
 
-// Room for so many octets. The `ensures` gives only its length, which lending it needs.
+// Room for an input.
+fn input_room() -> [u8; INPUT_ROOM]
+    ensures { 65537 ≡ length result }
+{
+    room::<INPUT_ROOM>()
+}
+
+// Room for every listing.
+fn output_room() -> [u8; MOST_LISTED]
+    ensures { 524288 ≡ length result }
+{
+    room::<MOST_LISTED>()
+}
+
+// Room for so many octets. The `ensures` of a room gives only its length, which lending it needs.
 fn room<const N: usize>() -> [u8; N]
     ensures { N ≡ length result }
 {

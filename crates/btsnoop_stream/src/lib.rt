@@ -21,7 +21,7 @@ pub fn take(state: Stream, chunk: &[u8]) -> Taken
     match Phase::from(state.phase) {
         Phase::Header => stream_header::take(held(state), octets, chunk),
         Phase::Record => stream_whole::take(held(state), octets, chunk),
-        Phase::Packet => packet(state).take_from(chunk, 0),
+        Phase::Packet => packet(state).take(chunk),
         Phase::Refused => refused_again(state),
         Phase::Ended => stream_state::at_end(octets),
     }

@@ -3,6 +3,7 @@
 
 ghost use Rattle.std.specs.Prelude.{◌≡◌, ◌≤◌, length};
 ghost use Rattle.refusals.specs.Says.{says_by};
+ghost use Rattle.octets.specs.Numbers.{big, number_at};
 ghost use Rattle.btsnoop_rules.specs.Header.{header_length};
 ghost use Rattle.btsnoop_rules.specs.Record.{record_at};
 ghost use Rattle.btsnoop_rules.specs.File.{survey_at, file_at};
@@ -10,6 +11,7 @@ ghost use Rattle.btsnoop_survey.specs.Says.{met_of, survey_says, accepted_of};
 
 use btsnoop_rules::{HEADER_LENGTH, RECORD_LENGTH};
 use numbers::Number;
+use octets::octet;
 use refusals::{Reason, Refusal};
 
 // Where a survey stopped: at the input's end, or at the place reached when its number of records is used up.
@@ -87,7 +89,7 @@ fn judge(s: &[u8], place: usize) -> Result<Option<usize>, Refusal>
         return Err(Reason::ShortRecord.at(place));
     }
     // Both are widened where they are read: to do so behind the test would delay each step.
-    let included = u32::be_at(s, place + 4) as usize;
+    let included = by_octets(s, place + 4) as usize;
     if (u32::be_at(s, place) as usize) < included {
         return Err(Reason::IncludedAboveOriginal.at(place + 4));
     }
@@ -97,6 +99,19 @@ fn judge(s: &[u8], place: usize) -> Result<Option<usize>, Refusal>
         return Err(Reason::ShortPacket.at(place));
     }
     Ok(Some(packet + included))
+}
+
+// A length at a place, read octet by octet: with one load the processor fetches nothing ahead, and a file above its caches
+// takes twice the time.
+fn by_octets(s: &[u8], at: usize) -> u32
+    ensures { result ≡ number_at big 4 s.now at }
+{
+    u32::from_be_bytes([
+        octet(s, at, 0),
+        octet(s, at, 1),
+        octet(s, at, 2),
+        octet(s, at, 3),
+    ])
 }
 
 // Checks a whole file: accepted exactly when its header is valid and whole records fill the rest.

@@ -1,41 +1,68 @@
 -- The library's reading of octets is the definition's, in either order.
 -- Assumes nothing.
-use Prim.Native.Nat.{ℕ, zero, suc, ◌+◌, ◌/◌, ◌%◌, ◌^◌}
+use Prim.Native.Nat.{ℕ, zero, suc, ◌+◌, ◌-◌, ◌*◌, ◌/◌, ◌%◌, ◌^◌}
 use mathlib.Core.Path.{◌≡◌, refl, sym, ap, ◌∙◌}
 use mathlib.Core.List.{List, [], ◌∷◌, ◌++◌, reverse, reverse-append}
 use native.Mathlib.Omega.{arith}
 use native.Mathlib.Nat.{div-div-eq-div-mul, pow-suc}
-use mir.Syntax.{w16, w32, w64}
-use Rattle.std.specs.Int.{from_be_bytes, from_le_bytes, byte_at, bytes_low_first, bytes_high_first}
+use lib.ListN.{length}
+use Rattle.std.specs.Prelude.{slice_index}
+use Rattle.std.specs.Int.{byte_worth, sum_through, byte_at, bytes_low_first, bytes_high_first}
 use Rattle.octets.specs.Numbers.{little, big, number, to_little, octets_of}
-use Rattle.octets.proofs.Laws.{cons, last}
+use Rattle.octets.proofs.Laws.{cons, last, number-joined}
 
-module _ (a b : ℕ) where
-  pub big_2 : from_be_bytes w16 (a ∷ b ∷ []) ≡ number big (a ∷ b ∷ [])
-  unfolding number
-  big_2 = omega arith
+-- ---- the joining of octets, once over the width
 
-  pub little_2 : from_le_bytes w16 (a ∷ b ∷ []) ≡ number little (a ∷ b ∷ [])
-  unfolding number
-  little_2 = omega arith
+-- a sum's first term taken out
+from_first : (f : ℕ → ℕ) (k : ℕ) → sum_through f (suc k) ≡ f zero + sum_through (λ i. f (suc i)) k
+from_first f zero = refl
+from_first f (suc k) = omega (arith, from_first f k)
 
-module _ (a b c d : ℕ) where
-  pub big_4 : from_be_bytes w32 (a ∷ b ∷ c ∷ d ∷ []) ≡ number big (a ∷ b ∷ c ∷ d ∷ [])
-  unfolding number
-  big_4 = omega arith
+-- a sum of terms so many times those of another
+times : (m : ℕ) (f g : ℕ → ℕ) → ((i : ℕ) → f i ≡ m * g i) → (k : ℕ) → sum_through f k ≡ m * sum_through g k
+times m f g e zero = e zero
+times m f g e (suc k) = rw (times m f g e k) (rw (e (suc k)) (omega arith))
 
-  pub little_4 : from_le_bytes w32 (a ∷ b ∷ c ∷ d ∷ []) ≡ number little (a ∷ b ∷ c ∷ d ∷ [])
-  unfolding number
-  little_4 = omega arith
+-- an octet one place higher is worth 256 times as much
+higher : (i x : ℕ) → byte_worth (suc i) x ≡ 256 * byte_worth i x
+higher zero x = omega arith
+higher (suc i) x = rw (pow-suc 256 (suc i)) (omega arith)
 
-module _ (a b c d e f g h : ℕ) where
-  pub big_8 : from_be_bytes w64 (a ∷ b ∷ c ∷ d ∷ e ∷ f ∷ g ∷ h ∷ []) ≡ number big (a ∷ b ∷ c ∷ d ∷ e ∷ f ∷ g ∷ h ∷ [])
-  unfolding number
-  big_8 = omega arith
+-- octets joined by what each is worth at its place are their number, the least significant first
+pub joined_little : (xs : List ℕ) (k : ℕ) → length xs ≡ suc k
+    → sum_through (λ i. byte_worth i (slice_index xs i)) k ≡ number little xs
+unfolding number
+joined_little [] k l = absurd (omega arith)
+joined_little (x ∷ []) zero l = omega arith
+joined_little (x ∷ y ∷ xs) zero l = absurd (omega arith)
+joined_little (x ∷ xs) (suc k) l =
+    let rest : sum_through (λ i. byte_worth (suc i) (slice_index xs i)) k ≡ 256 * sum_through (λ i. byte_worth i (slice_index xs i)) k =
+    times 256 (λ i. byte_worth (suc i) (slice_index xs i)) (λ i. byte_worth i (slice_index xs i)) (λ i. higher i (slice_index xs i)) k in
+    from_first (λ i. byte_worth i (slice_index (x ∷ xs) i)) k
+    ∙ ap (λ (n : ℕ). x + n) (rest ∙ ap (λ (n : ℕ). 256 * n) (joined_little xs k (omega arith)))
 
-  pub little_8 : from_le_bytes w64 (a ∷ b ∷ c ∷ d ∷ e ∷ f ∷ g ∷ h ∷ []) ≡ number little (a ∷ b ∷ c ∷ d ∷ e ∷ f ∷ g ∷ h ∷ [])
-  unfolding number
-  little_8 = omega arith
+-- or the most significant first
+pub joined_big : (xs : List ℕ) (k : ℕ) → length xs ≡ suc k
+    → sum_through (λ i. byte_worth (k - i) (slice_index xs i)) k ≡ number big xs
+unfolding number
+joined_big [] k l = absurd (omega arith)
+joined_big (x ∷ []) zero l = omega arith
+joined_big (x ∷ y ∷ xs) zero l = absurd (omega arith)
+joined_big (x ∷ xs) (suc k) l =
+    let fewer : (i : ℕ) → suc k - suc i ≡ k - i = λ i. omega arith in
+    let same : (i : ℕ) → byte_worth (suc k - suc i) (slice_index xs i) ≡ 1 * byte_worth (k - i) (slice_index xs i) =
+    λ i. ap (λ (j : ℕ). byte_worth j (slice_index xs i)) (fewer i) ∙ omega arith in
+    let rest : sum_through (λ i. byte_worth (suc k - suc i) (slice_index xs i)) k ≡ 1 * sum_through (λ i. byte_worth (k - i) (slice_index xs i)) k =
+    times 1 (λ i. byte_worth (suc k - suc i) (slice_index xs i)) (λ i. byte_worth (k - i) (slice_index xs i)) same k in
+    let long : length xs ≡ suc k = omega arith in
+    let all = from_first (λ i. byte_worth (suc k - i) (slice_index (x ∷ xs) i)) k in
+    let parts = number-joined big (x ∷ []) xs in
+    let low = joined_big xs k long in
+    let power : 256 ^ length xs ≡ 256 ^ suc k = ap (λ (j : ℕ). 256 ^ j) long in
+    let whole : suc k - 0 ≡ suc k = omega arith in
+    let first : byte_worth (suc k - 0) x ≡ x * 256 ^ suc k = ap (λ (j : ℕ). byte_worth j x) whole in
+    let others : sum_through (λ i. byte_worth (suc k - suc i) (slice_index xs i)) k ≡ number big xs = rest ∙ omega (arith, low) in
+    all ∙ (λ i. first i + others i) ∙ sym (parts ∙ rw power (omega arith))
 
 -- ---- and so is its writing, once over the width
 

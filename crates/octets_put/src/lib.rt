@@ -10,6 +10,9 @@ pub fn put(out: &mut [u8], at: usize, octets: &[u8])
 {
     let n = octets.len();
     if octets::has_room(out.len(), at, n) {
-        out[at..at + n].copy_from_slice(octets);
+        // By a loop: copy_from_slice would have the archive for C need memmove from outside.
+        for i in 0..n {
+            out[at + i] = octets[i];
+        }
     }
 }

@@ -8,8 +8,9 @@ use Rattle.refusals.specs.Refusals.{Answer, refused, given}
 use Rattle.radiotap_rules.specs.declared.Cursor.{Cursor}
 use Rattle.radiotap_rules.specs.Rules.{Rules}
 use Rattle.radiotap_rules.specs.Reading.{Reading, refused_before, refused_at_field, read, reading}
-use Rattle.radiotap_rules.specs.Steps.{head_at, Met}
+use Rattle.radiotap_rules.specs.Steps.{head_at, Met, refused_step}
 use Rattle.radiotap_rules.specs.Answers.{Summary, summary}
+use Rattle.radiotap_step.specs.Asked.{asked_in, step_in}
 use Rattle.radiotap_place.specs.Places.{first_place, place_by, fresh_place, answer_at, moved_by, moved_on}
 
 module _ (rules : Rules) (edition : ℕ) (s : List ℕ) where
@@ -32,6 +33,17 @@ module _ (rules : Rules) (edition : ℕ) (s : List ℕ) where
       go (refused_before n p) h = let z : ◌≡◌ {A = ℕ} 0 1 = cc in absurd (omega arith)
       go (refused_at_field w b p) h = let z : ◌≡◌ {A = ℕ} 0 1 = cc in absurd (omega arith)
       go (read fs e frame) h = refl
+
+  -- a refusal is answered, unless 15 is
+  pub refusal-answered : {place : Answer Cursor} {n p : ℕ} → place ≡ refused n p → {m : Met} → m ≡ asked_in rules edition (λ taken. refused_step n p)
+      → m ≡ answer_at rules edition s place
+  unfolding answer_at
+  refusal-answered is asked = asked ∙ sym (ap (answer_at rules edition s) is)
+
+  -- at a cursor the step from it is answered
+  pub step-answered : {place : Answer Cursor} {c : Cursor} → place ≡ given c → {m : Met} → m ≡ step_in rules edition s c → m ≡ answer_at rules edition s place
+  unfolding answer_at step_in
+  step-answered is step = step ∙ sym (ap (answer_at rules edition s) is)
 
   -- a place is moved on by what is answered at it
   pub moved_by_lem : (place : Answer Cursor) {m : Met} → m ≡ answer_at rules edition s place → moved_by place m ≡ moved_on rules edition s place

@@ -27,10 +27,10 @@ pub fn answer_at(s: &[u8], edition: u32, place: Result<Cursor, Refusal>) -> Resu
     ensures result_value { step_says s.now result ≡ answer_at our_rules edition s.now (says place) }
     ensures step_sized { StepSized result }
 {
-    if radiotap_table::served(edition) {
-        radiotap_step::next_taken(s, radiotap_table::reading(edition), place?)
-    } else {
-        Err(Reason::Edition.at(0))
+    match place {
+        Ok(cursor) => radiotap_step::next(s, edition, cursor),
+        Err(refusal) if radiotap_table::served(edition) => Err(refusal),
+        Err(_) => Err(Reason::Edition.at(0)),
     }
 }
 

@@ -56,6 +56,8 @@ pub enum Reason {
     TallyBroken,
     // 32: a chunk takes the stream past 2^63 - 1 octets.
     LongStream,
+    // A number that document 01 gives to none, as a state lent from outside may hold.
+    Other(u32),
 }
 
 impl Reason {
@@ -88,6 +90,7 @@ impl Reason {
             Reason::ReservedPhy => 22,
             Reason::TallyBroken => 23,
             Reason::LongStream => 32,
+            Reason::Other(number) => number,
         }
     }
 
@@ -98,6 +101,41 @@ impl Reason {
         Refusal {
             reason: self,
             place,
+        }
+    }
+}
+
+// The reason of any number.
+impl From<u32> for Reason {
+    ghost from_gives = { λ number reason. number_of reason ≡ number };
+
+    fn from(number: u32) -> Reason {
+        match number {
+            1 => Reason::ShortHeader,
+            2 => Reason::Identification,
+            3 => Reason::Version,
+            4 => Reason::Datalink,
+            5 => Reason::ShortRecord,
+            6 => Reason::IncludedAboveOriginal,
+            7 => Reason::ShortPacket,
+            8 => Reason::RfChannel,
+            9 => Reason::RadiotapLength,
+            10 => Reason::WordPastLength,
+            11 => Reason::NinthWord,
+            12 => Reason::FieldPastLength,
+            13 => Reason::NoRoom,
+            14 => Reason::Time,
+            15 => Reason::Edition,
+            16 => Reason::TallySum,
+            17 => Reason::RecordPlace,
+            18 => Reason::UnknownBit,
+            19 => Reason::ValuesLength,
+            20 => Reason::ListingInput,
+            21 => Reason::ReservedPduType,
+            22 => Reason::ReservedPhy,
+            23 => Reason::TallyBroken,
+            32 => Reason::LongStream,
+            _ => Reason::Other(number),
         }
     }
 }

@@ -19,7 +19,7 @@ pub fn take(held: Held, octets: usize, chunk: &[u8]) -> Taken
     let need = HEADER_LENGTH.saturating_sub(held.len());
     if chunk.len() < need {
         return stream_state::holding(
-            Phase::Header,
+            Phase::Header as u64,
             held.with(chunk),
             octets + chunk.len(),
             chunk.len(),

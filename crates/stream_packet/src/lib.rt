@@ -3,7 +3,7 @@
 
 ghost use Rattle.std.specs.Prelude.{◌≡◌, List, [], ℕ, ◌+◌, ◌-◌, ◌^◌, ◌≤◌, ◌<◌, length, drop};
 ghost use Rattle.btsnoop_rules.specs.Record.{record_length, numbers_at};
-ghost use Rattle.stream_rules.specs.Stream.{most_octets, finished as finished_record, in_record, in_packet, outcome, handed, after, take_packet, within as within_longest};
+ghost use Rattle.stream_rules.specs.Stream.{most_octets, finished as finished_record, in_record, in_packet, outcome, handed, after, take_packet, take_at, within as within_longest};
 ghost use Rattle.stream_packet.specs.Finished.{FinishedAs};
 ghost use Rattle.stream_state.specs.Rows.{if_any, part_row, TakenAs};
 
@@ -21,7 +21,14 @@ pub struct Packet {
 }
 
 impl Packet {
-    // Hands out a chunk's octets up to the end of the packet, from a place in the chunk on, behind what was taken of it.
+    // Hands out a chunk's octets up to the end of the packet, behind what was taken of it.
+    pub fn take(self, chunk: &[u8]) -> Taken
+        ensures { TakenAs (take_at (in_packet self.octets (numbers_at self.header 0) self.done) chunk.now) result }
+    {
+        self.take_from(chunk, 0)
+    }
+
+    // Hands them out from a place in the chunk on.
     pub fn take_from(self, chunk: &[u8], from: usize) -> Taken
         ensures { TakenAs (within_longest self.octets (drop from chunk.now) (after from (take_packet self.octets (numbers_at self.header 0) self.done (drop from chunk.now)))) result }
     {

@@ -25,7 +25,7 @@ pub fn take(held: Held, octets: usize, chunk: &[u8]) -> Taken
     let need = RECORD_LENGTH - held.len();
     if chunk.len() < need {
         return stream_state::holding(
-            Phase::Record,
+            Phase::Record as u64,
             held.with(chunk),
             octets + chunk.len(),
             chunk.len(),

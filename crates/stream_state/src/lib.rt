@@ -169,15 +169,16 @@ pub fn nothing(taken: usize, state: Stream) -> Taken
     }
 }
 
-// A stream of which header octets are held.
-pub fn holding(phase: Phase, held: Held, octets: usize, taken: usize) -> Taken
-    ensures { TakenAs (outcome taken no_event (keeps (phase_number phase) 0 0 octets held.count 0 held.octets)) result }
+// A stream of which header octets are held, in a phase by its number.
+pub fn holding(phase: u64, held: Held, octets: usize, taken: usize) -> Taken
+    ensures { TakenAs (outcome taken no_event (keeps phase 0 0 octets held.count 0 held.octets)) result }
 {
     let all = held.octets;
     let state = Stream {
+        phase,
         count: held.count as u64,
         held: all,
-        ..kept(phase, octets)
+        ..kept(Phase::Header, octets)
     };
     nothing(taken, state)
 }

@@ -5,6 +5,7 @@ ghost use Rattle.vectors.specs.Questions.{is_among};
 use crate::question_lines;
 use crate::question_lines::{Question, low32, room, within};
 use boundary_write::Written;
+use twos_complement::TwosComplement;
 
 // Writes the answer behind its kind; tells whether the question is one of these.
 pub fn answer(question: Question) -> bool
@@ -30,7 +31,7 @@ fn write(question: Question) {
 }
 
 fn read_time(field: u64) {
-    let r = zalghimo::zalghimo_btsnoop_read_time(field.cast_signed());
+    let r = zalghimo::zalghimo_btsnoop_read_time(i64::of_bits(field));
     question_lines::numbers(&[
         r.kind,
         r.number,
@@ -41,7 +42,7 @@ fn read_time(field: u64) {
 }
 
 fn write_time(seconds: u64, microseconds: u64) {
-    let r = zalghimo::zalghimo_btsnoop_write_time(seconds.cast_signed(), low32(microseconds));
+    let r = zalghimo::zalghimo_btsnoop_write_time(i64::of_bits(seconds), low32(microseconds));
     question_lines::numbers(&[r.kind, r.number, r.place, r.field.cast_unsigned()]);
 }
 
@@ -67,7 +68,7 @@ fn write_record(question: Question) {
         low32(original),
         low32(flags),
         low32(drops),
-        time.cast_signed(),
+        i64::of_bits(time),
         question.second,
     );
     written(r, out);

@@ -4,17 +4,14 @@ use Rattle.btsnoop_rules.specs.Record.{numbers_at}
 use Rattle.stream_rules.specs.Stream.{Stream, in_packet, take_at}
 use Rattle.stream_state.proofs.Rows.{answers}
 use Rattle.stream_packet.specs.declared.Packet.{Packet}
-use Rattle.stream_packet.proofs.Handings.{goes_on}
 use Rattle.btsnoop_stream.proofs.Phases.{says_in}
 use Rattle.btsnoop_stream.proofs.take.Goals as goal
 
 pub returns-in-Packet : goal.returns-in-Packet
 returns-in-Packet c =
     let s = c.args.chunk.now in
-    let p = c.packet.result in
-    answers c.take_from.result c.take_from.ensures
-    (goes_on p.octets (numbers_at p.header 0) p.done s
-    ∙ ap (λ (q : Packet). take_at (in_packet q.octets (numbers_at q.header 0) q.done) s) c.packet.ensures
+    answers c.take-in-Packet.result c.take-in-Packet.ensures
+    (ap (λ (q : Packet). take_at (in_packet q.octets (numbers_at q.header 0) q.done) s) c.packet.ensures
     ∙ ap (λ (st : Stream). take_at st s) (says_in c.args.state (sym c.in-Packet.is ∙ c.from.ensures)))
 
 pub returns-in-Refused : goal.returns-in-Refused

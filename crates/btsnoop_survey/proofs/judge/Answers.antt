@@ -31,7 +31,7 @@ unfolding numbers_at
 returns-then-be_at-included c =
     let a = c.args in
     let n = numbers_at a.s.now a.place in
-    let above : n.original < n.included = omega (arith, c.be_at-included.ensures, c.be_at.ensures) in
+    let above : n.original < n.included = omega (arith, c.by_octets-included.ensures, c.be_at.ensures) in
     rw c.at-then-be_at-included.ensures
     (sym (judged a.s.now a.place (omega arith) (omega arith) c.if-place-s.false (omega arith)
     ∙ judged_above (length a.s.now - a.place) a.place n above))
@@ -41,8 +41,8 @@ unfolding numbers_at
 returns-then-s-packet c =
     let a = c.args in
     let n = numbers_at a.s.now a.place in
-    let fits : n.included ≤ n.original = omega (arith, c.be_at-included.ensures, c.be_at.ensures) in
-    let past : length a.s.now - a.place < record_length + n.included = omega (arith, c.be_at-included.ensures) in
+    let fits : n.included ≤ n.original = omega (arith, c.by_octets-included.ensures, c.be_at.ensures) in
+    let past : length a.s.now - a.place < record_length + n.included = omega (arith, c.by_octets-included.ensures) in
     rw c.at-then-s-packet.ensures
     (sym (judged a.s.now a.place (omega arith) (omega arith) c.if-place-s.false (omega arith)
     ∙ judged_past (length a.s.now - a.place) a.place n fits past))
@@ -52,8 +52,8 @@ unfolding numbers_at
 returns c =
     let a = c.args in
     let n = numbers_at a.s.now a.place in
-    let fits : n.included ≤ n.original = omega (arith, c.be_at-included.ensures, c.be_at.ensures) in
-    let enough : record_length + n.included ≤ length a.s.now - a.place = omega (arith, c.be_at-included.ensures) in
-    ap (λ (k : ℕ). given (whole n (a.place + record_length) (a.place + record_length + k))) c.be_at-included.ensures
+    let fits : n.included ≤ n.original = omega (arith, c.by_octets-included.ensures, c.be_at.ensures) in
+    let enough : record_length + n.included ≤ length a.s.now - a.place = omega (arith, c.by_octets-included.ensures) in
+    ap (λ (k : ℕ). given (whole n (a.place + record_length) (a.place + record_length + k))) c.by_octets-included.ensures
     ∙ sym (judged a.s.now a.place (omega arith) (omega arith) c.if-place-s.false (omega arith)
     ∙ judged-whole (length a.s.now - a.place) a.place n fits enough)

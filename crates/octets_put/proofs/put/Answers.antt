@@ -1,26 +1,36 @@
--- `octets_put::put` meets its contract: with room the part is replaced, and else nothing changes.
-use mathlib.Core.Path.{◌≡◌, sym, ap, ap₂, ◌∙◌}
+-- `octets_put::put` meets its contract: the loop has pasted the first octets, and at its end all; without room nothing changes.
+use Prim.Native.Nat.{◌≤◌, ◌+◌, ◌<◌}
+use mathlib.Core.Path.{◌≡◌, ap, sym, ◌∙◌}
 use mathlib.Core.Bool.{Bool, cond}
 use native.Mathlib.Omega.{arith}
-use Rattle.std.proofs.Common.{ℕ, ◌+◌, ◌-◌, ◌++◌, length, take, drop, List}
-use mathlib.Core.List.{append_assoc}
-use lib.Seq.{drop-drop}
-use borrow.Rule.Slice.PartMut.{put_mid}
+use native.Mathlib.Numerals.{add-one}
+use lib.ListN.{length}
+use lib.Seq.{paste, paste-suc}
+use borrow.Author.Tests.{leb-true}
 use Rattle.octets.specs.Parts.{splice, put}
+use Rattle.octets.proofs.PartLaws.{put-room, splice-paste}
 use Rattle.octets_put.proofs.put.Goals as goal
 
-pub returns-then-has_room : goal.returns-then-has_room
-unfolding put splice
-returns-then-has_room c =
+pub loop-i-preserved : goal.loop-i-preserved
+loop-i-preserved c =
     let a = c.args in
-    let n = length a.octets.now in
-    let joined : take a.at a.out.now ++ (a.octets.now ++ drop (a.at + n) a.out.now) ≡ splice a.out.now a.at a.octets.now =
-    sym (append_assoc (take a.at a.out.now) a.octets.now (drop (a.at + n) a.out.now)) in
-    let size : a.at + n - a.at ≡ n = omega arith in
-    ap₂ (λ (k : ℕ) (xs : List ℕ). put_mid a.at k a.out.now xs) size c.copy_from_slice.ensures.after
-    ∙ ap (λ (behind : List ℕ). take a.at a.out.now ++ (a.octets.now ++ behind)) (drop-drop n a.at a.out.now)
-    ∙ joined
-    ∙ sym (ap (λ (t : Bool). cond t (splice a.out.now a.at a.octets.now) a.out.now) (sym c.has_room.ensures ∙ c.if-has_room.true))
+    let i = c.loop-i.i in
+    let fits : a.at + length a.octets.now ≤ length a.out.now =
+    leb-true (a.at + length a.octets.now) (length a.out.now) (sym c.has_room.ensures ∙ c.if-has_room.true) in
+    let room : a.at + i < length a.out.now = omega arith in
+    let more : i < length a.octets.now = omega arith in
+    rw (c.loop-i.invariant, add-one) (paste-suc a.out.now a.at a.octets.now i 0 room more)
+
+pub returns-after-loop-i : goal.returns-after-loop-i
+returns-after-loop-i c =
+    let a = c.args in
+    let all : c.loop-i.i ≡ length a.octets.now = omega arith in
+    let fits : a.at + length a.octets.now ≤ length a.out.now =
+    leb-true (a.at + length a.octets.now) (length a.out.now) (sym c.has_room.ensures ∙ c.if-has_room.true) in
+    c.loop-i.invariant
+    ∙ ap (paste a.out.now a.at a.octets.now) all
+    ∙ sym (splice-paste a.out.now a.at a.octets.now)
+    ∙ sym (put-room a.out.now a.at a.octets.now fits)
 
 pub returns-else-has_room : goal.returns-else-has_room
 unfolding put

@@ -1,10 +1,10 @@
 -- `radiotap::count` meets its contract: the outer loop keeps what was found up to a word (`AtWord`), the inner one where it stands in the
 -- word (`Counting`); each bit that is shown is a field that is met or refused, and behind them the word stops the walk, ends it or is passed.
 use native.Mathlib.Omega.{arith}
-use mathlib.Core.Path.{sym, ap, ◌∙◌}
+use mathlib.Core.Path.{refl, sym, ap, ◌∙◌}
 use lib.ListN.{get_or}
 use Rattle.octets.specs.Numbers.{number_at}
-use Rattle.numbers.proofs.Orders.{little_4}
+use Rattle.numbers.proofs.Orders.{joined_little}
 use Rattle.radiotap_rules.specs.Table.{our_rules}
 use Rattle.radiotap_table.proofs.RowLaws.{row-spans}
 use Rattle.radiotap.specs.Outcomes.{summarised}
@@ -78,7 +78,7 @@ loop-bit-preserved c =
     let w = c.loop-left.invariant.1 in
     let known = c.known-known.result in
     let past = stop-none a.taken a.s.now known c.if-carried-ne0.false in
-    (_, counts_word a.taken a.s.now known w c.loop-left-test.false past more (c.from_le_bytes-next.ensures ∙ little_4 _ _ _ _) (held a.taken a.s.now known c.loop-bit.invariant.1) c.continued-unknown.ensures c.known-known.ensures c.if-unknown-ne0.false)
+    (_, counts_word a.taken a.s.now known w c.loop-left-test.false past more (c.from_le_bytes-next.ensures ∙ joined_little _ 3 refl) (held a.taken a.s.now known c.loop-bit.invariant.1) c.continued-unknown.ensures c.known-known.ensures c.if-unknown-ne0.false)
 
 pub returns-then-carried-ne0 : goal.returns-then-carried-ne0
 returns-then-carried-ne0 c =
@@ -107,5 +107,5 @@ returns-then-unknown-ne0 c =
     let w = c.loop-left.invariant.1 in
     let known = c.known-known.result in
     let past = stop-none a.taken a.s.now known c.if-carried-ne0.false in
-    let step = counts_continued a.taken a.s.now known w c.loop-left-test.false past more (c.from_le_bytes-next.ensures ∙ little_4 _ _ _ _) (held a.taken a.s.now known c.loop-bit.invariant.1) c.continued-unknown.ensures c.if-unknown-ne0.true in
+    let step = counts_continued a.taken a.s.now known w c.loop-left-test.false past more (c.from_le_bytes-next.ensures ∙ joined_little _ 3 refl) (held a.taken a.s.now known c.loop-bit.invariant.1) c.continued-unknown.ensures c.if-unknown-ne0.true in
     rw c.octet-pad.ensures (sym (ap (summarised (get_or a.s.now 1 0) a.head) (finishes our_rules a.taken a.s.now 0 w.sofar.found step)))

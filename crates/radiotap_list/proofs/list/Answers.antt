@@ -6,7 +6,7 @@ use native.Mathlib.Nat.{zero-min}
 use mathlib.Core.Path.{◌≡◌, refl, sym, ap, ◌∙◌, subst}
 use lib.ListN.{get_or}
 use Rattle.octets.specs.Numbers.{number_at}
-use Rattle.numbers.proofs.Orders.{little_4}
+use Rattle.numbers.proofs.Orders.{joined_little}
 use Rattle.radiotap_rules.specs.Table.{our_rules}
 use Rattle.radiotap_rules.specs.Steps.{first_cursor}
 use Rattle.radiotap_bits.specs.declared.SetBits.{SetBits}
@@ -155,7 +155,7 @@ returns-then-unknown-ne0 c =
     let w = c.loop-bit-2.invariant.counting.1 in
     let known = c.known-known.result in
     let past = stop-none a.taken a.s.now known c.if-carried-ne0.false in
-    let step = counts_continued a.taken a.s.now known w c.in-None.ensures.steps past more (c.from_le_bytes-next.ensures ∙ little_4 _ _ _ _) (held a.taken a.s.now known c.loop-bit.invariant.1) c.continued-unknown.ensures c.if-unknown-ne0.true in
+    let step = counts_continued a.taken a.s.now known w c.in-None.ensures.steps past more (c.from_le_bytes-next.ensures ∙ joined_little _ 3 refl) (held a.taken a.s.now known c.loop-bit.invariant.1) c.continued-unknown.ensures c.if-unknown-ne0.true in
     record {
       result_value = rw c.octet-pad.ensures (sym (ap (summarised (get_or a.s.now 1 0) a.head) (walk-finishes our_rules a.taken a.s.now 0 w.sofar.found step)));
       out_after = finishes our_rules a.taken a.s.now a.room (first_cursor a.head) a.out.now holds step;
@@ -170,4 +170,4 @@ loop-bit-preserved c =
     let w = c.loop-bit-2.invariant.counting.1 in
     let known = c.known-known.result in
     let past = stop-none a.taken a.s.now known c.if-carried-ne0.false in
-    (_, counts_word a.taken a.s.now known w c.in-None.ensures.steps past more (c.from_le_bytes-next.ensures ∙ little_4 _ _ _ _) (held a.taken a.s.now known c.loop-bit.invariant.1) c.continued-unknown.ensures c.known-known.ensures c.if-unknown-ne0.false, holds)
+    (_, counts_word a.taken a.s.now known w c.in-None.ensures.steps past more (c.from_le_bytes-next.ensures ∙ joined_little _ 3 refl) (held a.taken a.s.now known c.loop-bit.invariant.1) c.continued-unknown.ensures c.known-known.ensures c.if-unknown-ne0.false, holds)

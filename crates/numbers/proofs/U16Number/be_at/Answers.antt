@@ -1,11 +1,11 @@
 -- `u16::be_at` meets its contract: the library's reading of the octets at the place is the definition's.
-use mathlib.Core.Path.{ap, ◌∙◌}
+use mathlib.Core.Path.{ap, refl, ◌∙◌}
 use mir.Syntax.{w16}
 use Rattle.std.specs.Int.{from_be_bytes}
 use Rattle.octets.specs.Numbers.{number_at}
-use Rattle.numbers.proofs.Orders.{big_2}
+use Rattle.numbers.proofs.Orders.{joined_big}
 use Rattle.numbers.proofs.U16Number.be_at.Goals as goal
 
 pub returns : goal.returns
 unfolding number_at
-returns c = c.from_be_bytes.ensures ∙ ap (from_be_bytes w16) c.array.ensures ∙ big_2 _ _
+returns c = c.from_be_bytes.ensures ∙ ap (from_be_bytes w16) c.array.ensures ∙ joined_big _ 1 refl
