@@ -1,0 +1,4 @@
+pub mod In
+pub mod Captures
+pub mod Values
+pub mod Radiotap
