@@ -1,7 +1,6 @@
--- A function that answers with a `refusals::Refusal` refuses with a number that a reason with a name has, but where it hands back
--- a refusal that its caller gave it. Each claim is on what the function's promise equates its answer with. The numbers alone
--- are spoken of: which reason of that number an answer holds, no promise says. Proofs: proofs/Captures.antt, Values.antt,
--- Radiotap.antt.
+-- A `refusals::Refusal` that a function answers with has the number of a reason with a name, unless the caller handed it in.
+-- Each claim is on what the function's promise equates its answer with, and speaks of the number alone: no promise says which
+-- reason of that number an answer holds. Proofs: proofs/Captures.antt, Values.antt, Radiotap.antt.
 use Rattle.std.specs.Prelude.{ℕ, ◌≡◌, List, ℤ}
 use Rattle.refusals.specs.Refusals.{Answer, refused}
 use Rattle.tiling.specs.Tiling.{broken}

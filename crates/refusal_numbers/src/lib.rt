@@ -1,3 +1,3 @@
-// Only the number of a reason with a name is refused with, but where a refusal is handed back to the caller who gave it. This
-// crate has definitions and laws alone (specs/, proofs/).
+// Each refusal that a function makes has the number of a reason with a name. This crate has definitions and laws alone
+// (specs/, proofs/).
 #![tactic(auto)]
