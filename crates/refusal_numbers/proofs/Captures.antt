@@ -3,8 +3,8 @@
 use Prim.Native.Nat.{ℕ, zero, suc, ◌+◌, ◌-◌}
 use mathlib.Core.Path.{◌≡◌, subst}
 use mathlib.Core.Bool.{Bool, true, false, cond, ◌&&◌}
-use lib.ListN.{length}
 use mathlib.Core.List.{List}
+use lib.ListN.{length}
 use lib.Dec.{leb, eqb}
 use Rattle.std.specs.Int.Signed.{le_z}
 use Rattle.refusals.specs.Refusals.{Answer, refused, given, record_place, no_room}
@@ -21,11 +21,11 @@ use Rattle.btsnoop_earlier.specs.Earlier.{Earlier, refused_in, both_stop, packet
 use Rattle.listing_rules.specs.Lines.{listing, listing_writing}
 use Rattle.refusal_numbers.specs.Named.{NamedNumber}
 use Rattle.refusal_numbers.specs.Claims.{BtsnoopNamed, ListingNamed}
-use Rattle.refusal_numbers.proofs.In.{on, In, refuses, gives, either, told}
+use Rattle.refusal_numbers.proofs.NamedAnswer.{on, NamedAnswer, refuses, gives, either_of, either, told}
 
-header-in : (s : List ℕ) → In (header_at s)
+header-named : (s : List ℕ) → NamedAnswer (header_at s)
 unfolding header_at header_judged
-header-in s =
+header-named s =
     either (leb header_length (length s))
     (either (same_octets (octets_at s 0 8) identification_octets)
     (either (eqb (number_at big 4 s 8) version_number)
@@ -34,116 +34,112 @@ header-in s =
     (refuses (on Reason.Identification _)))
     (refuses (on Reason.ShortHeader _))
 
-judged-in : (left p : ℕ) (n : Numbers) → In (record_judged left p n)
+judged-named : (left p : ℕ) (n : Numbers) → NamedAnswer (record_judged left p n)
 unfolding record_judged
-judged-in left p n =
+judged-named left p n =
     either (leb n.included n.original)
     (either (leb (record_length + n.included) left) gives (refuses (on Reason.ShortPacket _)))
     (refuses (on Reason.IncludedAboveOriginal _))
 
-record-in : (s : List ℕ) (p : ℕ) → In (record_at s p)
+record-named : (s : List ℕ) (p : ℕ) → NamedAnswer (record_at s p)
 unfolding record_at
-record-in s p =
+record-named s p =
     either (record_placed s p)
     (either (eqb p (length s)) gives
-    (either (leb record_length (length s - p)) (judged-in (length s - p) p (numbers_at s p)) (refuses (on Reason.ShortRecord _))))
+    (either (leb record_length (length s - p)) (judged-named (length s - p) p (numbers_at s p)) (refuses (on Reason.ShortRecord _))))
     (refuses (on Reason.RecordPlace _))
 
-step-in : (s : List ℕ) (p : ℕ) → In (record_step s p)
-step-in s p = go (record_at s p) (record-in s p)
+step-named : (s : List ℕ) (p : ℕ) → NamedAnswer (record_step s p)
+step-named s p = go (record_at s p) (record-named s p)
   where
-    go : (a : Answer Found) → In a → In (step_on s a)
+    go : (a : Answer Found) → NamedAnswer a → NamedAnswer (step_on s a)
     go (refused n q) (refuses l) = refuses l
     go (given end) l = gives
     go (given (whole n packet next)) l = gives
 
 -- an ending whose refusal, where it is one, has a named number
-data Ends : Ending → Type 0 where
-  breaks : {n q : ℕ} → NamedNumber n → Ends (broken n q)
-  at_end : {q : ℕ} → Ends (ended q)
-  before_end : {q : ℕ} → Ends (more q)
+data NamedEnding : Ending → Type 0 where
+  breaks : {n q : ℕ} → NamedNumber n → NamedEnding (broken n q)
+  at_end : {q : ℕ} → NamedEnding (ended q)
+  before_end : {q : ℕ} → NamedEnding (more q)
 
-ends_told : {e : Ending} {n q : ℕ} → Ends e → e ≡ broken n q → NamedNumber n
-ends_told l e = go (subst Ends e l)
+ends_told : {e : Ending} {n q : ℕ} → NamedEnding e → e ≡ broken n q → NamedNumber n
+ends_told l e = go (subst NamedEnding e l)
   where
-    go : {n q : ℕ} → Ends (broken n q) → NamedNumber n
+    go : {n q : ℕ} → NamedEnding (broken n q) → NamedNumber n
     go (breaks l) = l
 
-walk-in : {A : Type 0} (step : ℕ → Answer (Next A)) → ((p : ℕ) → In (step p)) → (number p : ℕ) → Ends (ending (walk step number p))
-walk-in {A = A} step steps zero p = go (step p)
+walk-named : {A : Type 0} (step : ℕ → Answer (Next A)) → ((p : ℕ) → NamedAnswer (step p)) → (number p : ℕ) → NamedEnding (ending (walk step number p))
+walk-named {A = A} step steps zero p = go (step p)
   where
-    go : (a : Answer (Next A)) → Ends (ending (used p a))
+    go : (a : Answer (Next A)) → NamedEnding (ending (used p a))
     go (refused n q) = before_end
     go (given Next.end) = at_end
     go (given (Next.whole a q)) = before_end
-walk-in {A = A} step steps (suc number) p = go (walk-in step steps number) (step p) (steps p)
+walk-named {A = A} step steps (suc number) p = go (walk-named step steps number) (step p) (steps p)
   where
-    go : ((q : ℕ) → Ends (ending (walk step number q))) → (a : Answer (Next A)) → In a → Ends (ending (onward p (walk step number) a))
+    go : ((q : ℕ) → NamedEnding (ending (walk step number q))) → (a : Answer (Next A)) → NamedAnswer a → NamedEnding (ending (onward p (walk step number) a))
     go rest (refused n q) (refuses l) = breaks l
     go rest (given Next.end) l = at_end
     go rest (given (Next.whole a q)) l = rest q
 
-survey-in : (s : List ℕ) (p number : ℕ) → Ends (survey_at s p number).ending
+survey-named : (s : List ℕ) (p number : ℕ) → NamedEnding (survey_at s p number).ending
 unfolding survey_at survey
-survey-in s p number = go (leb header_length p && leb p (length s))
+survey-named s p number = go (leb header_length p && leb p (length s))
   where
-    go : (t : Bool) → Ends (cond t (survey_of (walk (record_step s) number p)) (record { count = 0; ending = broken record_place p })).ending
-    go true = walk-in (record_step s) (step-in s) number p
+    go : (t : Bool) → NamedEnding (cond t (survey_of (walk (record_step s) number p)) (record { count = 0; ending = broken record_place p })).ending
+    go true = walk-named (record_step s) (step-named s) number p
     go false = breaks (on Reason.RecordPlace _)
 
-file-in : (s : List ℕ) → In (file_at s)
+file-named : (s : List ℕ) → NamedAnswer (file_at s)
 unfolding file_at file_walk
-file-in s = go (header_at s) (header-in s)
+file-named s = go (header_at s) (header-named s)
   where
-    by_ending : (code count : ℕ) (e : Ending) → Ends e → In (file_of code count e)
+    by_ending : (code count : ℕ) (e : Ending) → NamedEnding e → NamedAnswer (file_of code count e)
     by_ending code count (ended q) l = gives
     by_ending code count (more q) l = refuses (on Reason.RecordPlace _)
     by_ending code count (broken n q) (breaks l) = refuses l
 
-    go : (a : Answer ℕ) → In a → In (behind s a)
+    go : (a : Answer ℕ) → NamedAnswer a → NamedAnswer (behind s a)
     go (refused n q) (refuses l) = refuses l
     go (given code) l =
         by_ending code (length (items (walk (record_step s) (length s) header_length))) (ending (walk (record_step s) (length s) header_length))
-        (walk-in (record_step s) (step-in s) (length s) header_length)
+        (walk-named (record_step s) (step-named s) (length s) header_length)
 
 -- the earlier of two
-data Sides : Earlier → Type 0 where
-  breaks_in : {capture n q : ℕ} → NamedNumber n → Sides (refused_in capture n q)
-  both : Sides both_stop
-  one : {capture packet size : ℕ} → Sides (packet_of capture packet size)
+data NamedSide : Earlier → Type 0 where
+  breaks_in : {capture n q : ℕ} → NamedNumber n → NamedSide (refused_in capture n q)
+  both : NamedSide both_stop
+  one : {capture packet size : ℕ} → NamedSide (packet_of capture packet size)
 
-sides_told : {e : Earlier} {capture n q : ℕ} → Sides e → e ≡ refused_in capture n q → NamedNumber n
-sides_told l e = go (subst Sides e l)
+sides_told : {e : Earlier} {capture n q : ℕ} → NamedSide e → e ≡ refused_in capture n q → NamedNumber n
+sides_told l e = go (subst NamedSide e l)
   where
-    go : {capture n q : ℕ} → Sides (refused_in capture n q) → NamedNumber n
+    go : {capture n q : ℕ} → NamedSide (refused_in capture n q) → NamedNumber n
     go (breaks_in l) = l
 
-earlier-in : (first : List ℕ) (first_at : ℕ) (second : List ℕ) (second_at : ℕ) → Sides (earlier_of first first_at second second_at)
+earlier-named : (first : List ℕ) (first_at : ℕ) (second : List ℕ) (second_at : ℕ) → NamedSide (earlier_of first first_at second second_at)
 unfolding earlier_of
-earlier-in first first_at second second_at = go (record_at first first_at) (record_at second second_at) (record-in first first_at) (record-in second second_at)
+earlier-named first first_at second second_at = go (record_at first first_at) (record_at second second_at) (record-named first first_at) (record-named second second_at)
   where
-    smaller : (t : Bool) {a b : Earlier} → Sides a → Sides b → Sides (cond t a b)
-    smaller true l r = l
-    smaller false l r = r
-
-    go : (a b : Answer Found) → In a → In b → Sides (decided a b)
+    go : (a b : Answer Found) → NamedAnswer a → NamedAnswer b → NamedSide (decided a b)
     go (refused n q) b (refuses l) r = breaks_in l
     go (given end) (refused n q) l (refuses r) = breaks_in r
     go (given (whole n packet next)) (refused m q) l (refuses r) = breaks_in r
     go (given end) (given end) l r = both
     go (given end) (given (whole m packet next)) l r = one
     go (given (whole n packet next)) (given end) l r = one
-    go (given (whole n packet next)) (given (whole m packet' next')) l r = smaller (le_z n.time m.time) one one
+    go (given (whole n packet next)) (given (whole m packet' next')) l r = either_of NamedSide (le_z n.time m.time) one one
 
 -- the writers
-header_writing-in : (size at code : ℕ) → In (header_writing size at code)
+header_writing-named : (size at code : ℕ) → NamedAnswer (header_writing size at code)
 unfolding header_writing
-header_writing-in size at code =
+header_writing-named size at code =
     either (served code) (either (has_room size at header_length) gives (refuses (on Reason.NoRoom _))) (refuses (on Reason.Datalink _))
 
-record_writing-in : (size at original : ℕ) (packet : List ℕ) → In (record_writing size at original packet)
+record_writing-named : (size at original : ℕ) (packet : List ℕ) → NamedAnswer (record_writing size at original packet)
 unfolding record_writing
-record_writing-in size at original packet =
+record_writing-named size at original packet =
     either (leb (length packet) original)
     (either (has_room size at (record_length + length packet)) gives (refuses (on Reason.NoRoom _)))
     (refuses (on Reason.IncludedAboveOriginal _))
@@ -151,13 +147,13 @@ record_writing-in size at original packet =
 pub btsnoop_named : BtsnoopNamed
 btsnoop_named =
     record {
-      header = λ s n q. told (header-in s);
-      one_record = λ s p n q. told (record-in s p);
-      survey = λ s p number n q. ends_told (survey-in s p number);
-      file = λ s n q. told (file-in s);
-      earlier = λ first first_at second second_at capture n q. sides_told (earlier-in first first_at second second_at);
-      writes_header = λ size at code n q. told (header_writing-in size at code);
-      writes_record = λ size at original packet n q. told (record_writing-in size at original packet);
+      header = λ s n q. told (header-named s);
+      one_record = λ s p n q. told (record-named s p);
+      survey = λ s p number n q. ends_told (survey-named s p number);
+      file = λ s n q. told (file-named s);
+      earlier = λ first first_at second second_at capture n q. sides_told (earlier-named first first_at second second_at);
+      writes_header = λ size at code n q. told (header_writing-named size at code);
+      writes_record = λ size at original packet n q. told (record_writing-named size at original packet);
     }
 
 -- a listing
@@ -165,5 +161,5 @@ pub listing_named : ListingNamed
 unfolding listing_writing
 listing_named size at s n q = told (go (has_room size at (length (listing s))))
   where
-    go : (t : Bool) → In (cond t (given (at + length (listing s))) (refused no_room 0))
+    go : (t : Bool) → NamedAnswer (cond t (given (at + length (listing s))) (refused no_room 0))
     go t = either t gives (refuses (on Reason.NoRoom _))

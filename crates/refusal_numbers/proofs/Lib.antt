@@ -1,4 +1,4 @@
-pub mod In
+pub mod NamedAnswer
 pub mod Captures
 pub mod Values
 pub mod Radiotap

@@ -27,97 +27,97 @@ use Rattle.radiotap_place.specs.Places.{place_by, fresh_place, answer_taken, ans
 use Rattle.radiotap_reader.specs.Reader.{moved_times}
 use Rattle.refusal_numbers.specs.Named.{NamedNumber}
 use Rattle.refusal_numbers.specs.Claims.{RadiotapNamed, NamedPlace, PlacesNamed}
-use Rattle.refusal_numbers.proofs.In.{on, In, refuses, gives, either, told}
+use Rattle.refusal_numbers.proofs.NamedAnswer.{on, NamedAnswer, refuses, gives, either_of, either, told}
 
-fixed-in : (s : List ℕ) → In (fixed_header s)
+fixed-named : (s : List ℕ) → NamedAnswer (fixed_header s)
 unfolding fixed_header
-fixed-in s =
+fixed-named s =
     either (ltb (length s) fixed_length) (refuses (on Reason.ShortHeader _))
     (either (eqb (get_or s 0 0) 0)
     (either (leb fixed_length (length_in s) && leb (length_in s) (length s)) gives (refuses (on Reason.RadiotapLength _)))
     (refuses (on Reason.Version _)))
 
-words_from-in : (s : List ℕ) (size at more : ℕ) → In (words_from s size at more)
-words_from-in s size at zero = either (bit_set (number_at little 4 s at) 31) (refuses (on Reason.NinthWord _)) gives
-words_from-in s size at (suc more) = go (bit_set (number_at little 4 s at) 31) (leb (at + 8) size) (words_from-in s size (at + 4) more)
+words_from-named : (s : List ℕ) (size at more : ℕ) → NamedAnswer (words_from s size at more)
+words_from-named s size at zero = either (bit_set (number_at little 4 s at) 31) (refuses (on Reason.NinthWord _)) gives
+words_from-named s size at (suc more) = go (bit_set (number_at little 4 s at) 31) (leb (at + 8) size) (words_from-named s size (at + 4) more)
   where
-    behind-in : (a : Answer (List ℕ)) → In a → In (with_word (number_at little 4 s at) a)
-    behind-in (refused n q) (refuses l) = refuses l
-    behind-in (given ws) l = gives
+    behind-named : (a : Answer (List ℕ)) → NamedAnswer a → NamedAnswer (with_word (number_at little 4 s at) a)
+    behind-named (refused n q) (refuses l) = refuses l
+    behind-named (given ws) l = gives
 
-    go : (calls inside : Bool) → In (words_from s size (at + 4) more)
-        → In (elim calls [ true ↦ elim inside [ true ↦ with_word (number_at little 4 s at) (words_from s size (at + 4) more) | false ↦ refused word_past 4 ] | false ↦ given (number_at little 4 s at ∷ []) ])
-    go true true l = behind-in (words_from s size (at + 4) more) l
+    go : (calls inside : Bool) → NamedAnswer (words_from s size (at + 4) more)
+        → NamedAnswer (elim calls [ true ↦ elim inside [ true ↦ with_word (number_at little 4 s at) (words_from s size (at + 4) more) | false ↦ refused word_past 4 ] | false ↦ given (number_at little 4 s at ∷ []) ])
+    go true true l = behind-named (words_from s size (at + 4) more) l
     go true false l = refuses (on Reason.WordPastLength _)
     go false inside l = gives
 
-words-in : (s : List ℕ) (size : ℕ) → In (presence_words s size)
+words-named : (s : List ℕ) (size : ℕ) → NamedAnswer (presence_words s size)
 unfolding presence_words
-words-in s size = words_from-in s size 4 (most_words - 1)
+words-named s size = words_from-named s size 4 (most_words - 1)
 
-head-in : (s : List ℕ) → In (head_at s)
+head-named : (s : List ℕ) → NamedAnswer (head_at s)
 unfolding head_at
-head-in s = go (fixed_header s) (fixed-in s)
+head-named s = go (fixed_header s) (fixed-named s)
   where
-    by_words : (size : ℕ) (a : Answer (List ℕ)) → In a → In (head_of_words size a)
+    by_words : (size : ℕ) (a : Answer (List ℕ)) → NamedAnswer a → NamedAnswer (head_of_words size a)
     by_words size (refused n q) (refuses l) = refuses l
     by_words size (given ws) l = gives
 
-    go : (a : Answer ℕ) → In a → In (head_of_fixed s a)
+    go : (a : Answer ℕ) → NamedAnswer a → NamedAnswer (head_of_fixed s a)
     go (refused n q) (refuses l) = refuses l
-    go (given size) l = by_words size (presence_words s size) (words-in s size)
+    go (given size) l = by_words size (presence_words s size) (words-named s size)
 
-opened-in : (edition : ℕ) (s : List ℕ) → In (opening edition (head_at s))
-opened-in edition s = either (served our_rules edition) (head-in s) (refuses (on Reason.Edition _))
+opened-named : (edition : ℕ) (s : List ℕ) → NamedAnswer (opening edition (head_at s))
+opened-named edition s = either (served our_rules edition) (head-named s) (refuses (on Reason.Edition _))
 
-word-in : (s : List ℕ) (k : ℕ) → In (word_number s k)
+word-named : (s : List ℕ) (k : ℕ) → NamedAnswer (word_number s k)
 unfolding words_in
-word-in s k = go (fixed_header s) (fixed-in s)
+word-named s k = go (fixed_header s) (fixed-named s)
   where
-    numbered : (a : Answer (List ℕ)) → In a → In (word_numbered k a)
+    numbered : (a : Answer (List ℕ)) → NamedAnswer a → NamedAnswer (word_numbered k a)
     numbered (refused n q) (refuses l) = refuses l
     numbered (given ws) l = gives
 
-    go : (a : Answer ℕ) → In a → In (word_numbered k (words_of_fixed s a))
+    go : (a : Answer ℕ) → NamedAnswer a → NamedAnswer (word_numbered k (words_of_fixed s a))
     go (refused n q) (refuses l) = refuses l
-    go (given size) l = numbered (presence_words s size) (words-in s size)
+    go (given size) l = numbered (presence_words s size) (words-named s size)
 
 module _ (rules : Rules) where
   -- a reading that is refused before the first field by a named number
-  data Reads : Reading → Type 0 where
-    before : {n q : ℕ} → NamedNumber n → Reads (refused_before n q)
-    at_field : {w b p : ℕ} → Reads (refused_at_field w b p)
-    whole_header : {fs : List Field} {e : Ending} {frame : List ℕ} → Reads (read fs e frame)
+  data NamedReading : Reading → Type 0 where
+    before : {n q : ℕ} → NamedNumber n → NamedReading (refused_before n q)
+    at_field : {w b p : ℕ} → NamedReading (refused_at_field w b p)
+    whole_header : {fs : List Field} {e : Ending} {frame : List ℕ} → NamedReading (read fs e frame)
 
-  header_reads : (edition : ℕ) (s : List ℕ) → Reads (reading rules edition s)
+  header_reads : (edition : ℕ) (s : List ℕ) → NamedReading (reading rules edition s)
   unfolding reading
   header_reads edition s = asked (served rules edition)
     where
       taken : ℕ
       taken = edition_taken rules.reading_default edition
 
-      by_walk : (size : ℕ) (w : Walk) → Reads (read_walk s size w)
+      by_walk : (size : ℕ) (w : Walk) → NamedReading (read_walk s size w)
       by_walk size (refused_at w b p) = at_field
       by_walk size (shown fs e) = whole_header
 
-      by_words : (size : ℕ) (a : Answer (List ℕ)) → In a → Reads (read_words rules taken s size a)
+      by_words : (size : ℕ) (a : Answer (List ℕ)) → NamedAnswer a → NamedReading (read_words rules taken s size a)
       by_words size (refused n q) (refuses l) = before l
       by_words size (given ws) l = by_walk size (fields_of rules taken s size ws)
 
-      go : (a : Answer ℕ) → In a → Reads (read_fixed rules taken s a)
+      go : (a : Answer ℕ) → NamedAnswer a → NamedReading (read_fixed rules taken s a)
       go (refused n q) (refuses l) = before l
-      go (given size) l = by_words size (presence_words s size) (words-in s size)
+      go (given size) l = by_words size (presence_words s size) (words-named s size)
 
-      asked : (t : Bool) → Reads (cond t (read_fixed rules taken s (fixed_header s)) (refused_before edition_above 0))
-      asked true = go (fixed_header s) (fixed-in s)
+      asked : (t : Bool) → NamedReading (cond t (read_fixed rules taken s (fixed_header s)) (refused_before edition_above 0))
+      asked true = go (fixed_header s) (fixed-named s)
       asked false = before (on Reason.Edition _)
 
-  summary-in : (s : List ℕ) (r : Reading) → Reads r → In (summary s r)
-  summary-in s (refused_before n q) (before l) = refuses l
-  summary-in s (refused_at_field w b p) l = refuses (on Reason.FieldPastLength _)
-  summary-in s (read fs e frame) l = gives
+  summary-named : (s : List ℕ) (r : Reading) → NamedReading r → NamedAnswer (summary s r)
+  summary-named s (refused_before n q) (before l) = refuses l
+  summary-named s (refused_at_field w b p) l = refuses (on Reason.FieldPastLength _)
+  summary-named s (read fs e frame) l = gives
 
-  field_told : (r : Reading) (k : ℕ) {n q : ℕ} → Reads r → field_of r k ≡ refused_field n q → NamedNumber n
+  field_told : (r : Reading) (k : ℕ) {n q : ℕ} → NamedReading r → field_of r k ≡ refused_field n q → NamedNumber n
   field_told r k l e = go (field_of r k) (fields r l) e
     where
       Of : FieldAnswer → Type 0
@@ -130,7 +130,7 @@ module _ (rules : Rules) where
       nths (f ∷ fs) e zero = _
       nths (f ∷ fs) e (suc k) = nths fs e k
 
-      fields : (r : Reading) → Reads r → Of (field_of r k)
+      fields : (r : Reading) → NamedReading r → Of (field_of r k)
       fields (refused_before n q) (before l) = l
       fields (refused_at_field w b p) l = on Reason.FieldPastLength _
       fields (read fs e frame) l = nths fs e k
@@ -148,50 +148,46 @@ module _ (rules : Rules) where
       go false v e = let z : ◌≡◌ {A = ℕ} 0 1 = cc in absurd (omega arith)
 
   -- what is met, refused by a named number where it is refused
-  data Meets : Met → Type 0 where
-    refuses_step : {n q : ℕ} → NamedNumber n → Meets (refused_step n q)
-    is_over : {e : Ending} → Meets (over e)
-    is_met : {f : Field} {c : Cursor} → Meets (met f c)
+  data NamedMet : Met → Type 0 where
+    refuses_step : {n q : ℕ} → NamedNumber n → NamedMet (refused_step n q)
+    is_over : {e : Ending} → NamedMet (over e)
+    is_met : {f : Field} {c : Cursor} → NamedMet (met f c)
 
-  meets_told : {m : Met} {n q : ℕ} → Meets m → m ≡ refused_step n q → NamedNumber n
-  meets_told l e = go (subst Meets e l)
+  meets_told : {m : Met} {n q : ℕ} → NamedMet m → m ≡ refused_step n q → NamedNumber n
+  meets_told l e = go (subst NamedMet e l)
     where
-      go : {n q : ℕ} → Meets (refused_step n q) → NamedNumber n
+      go : {n q : ℕ} → NamedMet (refused_step n q) → NamedNumber n
       go (refuses_step l) = l
 
-  from-meets : (taken : ℕ) (s : List ℕ) (c : Cursor) (words : List ℕ) (left q : ℕ) → Meets (met_from rules taken s c words left q)
-  from-meets taken s c words zero q = is_over
-  from-meets taken s c words (suc left) q = go (meaning rules taken words q) (from-meets taken s c words left (suc q))
+  from-named : (taken : ℕ) (s : List ℕ) (c : Cursor) (words : List ℕ) (left q : ℕ) → NamedMet (met_from rules taken s c words left q)
+  from-named taken s c words zero q = is_over
+  from-named taken s c words (suc left) q = go (meaning rules taken words q) (from-named taken s c words left (suc q))
     where
-      either_meets : (t : Bool) {a b : Met} → Meets a → Meets b → Meets (cond t a b)
-      either_meets true l r = l
-      either_meets false l r = r
-
-      go : (m : Meaning) → Meets (met_from rules taken s c words left (suc q))
-          → Meets (met_meaning s c words q (met_from rules taken s c words left (suc q)) m)
+      go : (m : Meaning) → NamedMet (met_from rules taken s c words left (suc q))
+          → NamedMet (met_meaning s c words q (met_from rules taken s c words left (suc q)) m)
       go nothing l = l
       go unknown_here l = is_over
       go (field r) l =
-          either_meets (leb (aligned r.alignment c.at + r.size) c.size) is_met (refuses_step (on Reason.FieldPastLength _))
+          either_of NamedMet (leb (aligned r.alignment c.at + r.size) c.size) is_met (refuses_step (on Reason.FieldPastLength _))
 
-  step-meets : (taken : ℕ) (s : List ℕ) (c : Cursor) → Meets (step_of rules taken s c)
+  step-named : (taken : ℕ) (s : List ℕ) (c : Cursor) → NamedMet (step_of rules taken s c)
   unfolding step_of
-  step-meets taken s c = from-meets taken s c (words_of s c) (word_bits * c.words - c.position) c.position
+  step-named taken s c = from-named taken s c (words_of s c) (word_bits * c.words - c.position) c.position
 
-  asked-meets : (edition : ℕ) (inTaken : ℕ → Met) → ((taken : ℕ) → Meets (inTaken taken)) → Meets (asked_in rules edition inTaken)
-  asked-meets edition inTaken meets = go (served rules edition)
+  asked-named : (edition : ℕ) (inTaken : ℕ → Met) → ((taken : ℕ) → NamedMet (inTaken taken)) → NamedMet (asked_in rules edition inTaken)
+  asked-named edition inTaken meets = go (served rules edition)
     where
-      go : (t : Bool) → Meets (cond t (inTaken (edition_taken rules.reading_default edition)) (refused_step edition_above 0))
+      go : (t : Bool) → NamedMet (cond t (inTaken (edition_taken rules.reading_default edition)) (refused_step edition_above 0))
       go true = meets (edition_taken rules.reading_default edition)
       go false = refuses_step (on Reason.Edition _)
 
-  asked_step-meets : (edition : ℕ) (s : List ℕ) (c : Cursor) → Meets (step_in rules edition s c)
+  asked_step-named : (edition : ℕ) (s : List ℕ) (c : Cursor) → NamedMet (step_in rules edition s c)
   unfolding step_in
-  asked_step-meets edition s c = asked-meets edition (λ taken. step_of rules taken s c) (λ taken. step-meets taken s c)
+  asked_step-named edition s c = asked-named edition (λ taken. step_of rules taken s c) (λ taken. step-named taken s c)
 
-  writing-in : (size at edition word : ℕ) (values : List ℕ) → In (writing rules size at edition word values)
+  writing-named : (size at edition word : ℕ) (values : List ℕ) → NamedAnswer (writing rules size at edition word values)
   unfolding writing
-  writing-in size at edition word values =
+  writing-named size at edition word values =
       let taken = edition_taken rules.writing_default edition in
       either (served rules edition)
       (either (writable rules taken word)
@@ -204,61 +200,61 @@ module _ (rules : Rules) where
   pub radiotap_named : RadiotapNamed rules
   radiotap_named =
       record {
-        fixed = λ s n q. told (fixed-in s);
-        head = λ s n q. told (head-in s);
-        opened = λ edition s n q. told (opened-in edition s);
-        word = λ s k n q. told (word-in s k);
-        whole = λ edition s n q. told (summary-in s (reading rules edition s) (header_reads edition s));
+        fixed = λ s n q. told (fixed-named s);
+        head = λ s n q. told (head-named s);
+        opened = λ edition s n q. told (opened-named edition s);
+        word = λ s k n q. told (word-named s k);
+        whole = λ edition s n q. told (summary-named s (reading rules edition s) (header_reads edition s));
         numbered = λ edition s k n q. field_told (reading rules edition s) k (header_reads edition s);
         dbm = λ edition s k n q e. field_told (reading rules edition s) k (header_reads edition s) (dbm_told (field_of (reading rules edition s) k) e);
-        step = λ taken s c n q. meets_told (step-meets taken s c);
-        step_asked = λ edition s c n q. meets_told (asked_step-meets edition s c);
-        writes = λ size at edition word values n q. told (writing-in size at edition word values);
+        step = λ taken s c n q. meets_told (step-named taken s c);
+        step_asked = λ edition s c n q. meets_told (asked_step-named edition s c);
+        writes = λ size at edition word values n q. told (writing-named size at edition word values);
       }
 
   -- ---- a reader's places
 
-  in_place : {place : Answer Cursor} → NamedPlace place → In place
-  in_place {place = refused n q} l = refuses (l n q refl)
-  in_place {place = given c} l = gives
+  answer_of_place : {place : Answer Cursor} → NamedPlace place → NamedAnswer place
+  answer_of_place {place = refused n q} l = refuses (l n q refl)
+  answer_of_place {place = given c} l = gives
 
-  fresh-in : (edition : ℕ) (s : List ℕ) → In (fresh_place rules edition s)
+  fresh-named : (edition : ℕ) (s : List ℕ) → NamedAnswer (fresh_place rules edition s)
   unfolding fresh_place
-  fresh-in edition s = go (head_at s) (head-in s) (reading rules edition s) (header_reads edition s)
+  fresh-named edition s = go (head_at s) (head-named s) (reading rules edition s) (header_reads edition s)
     where
-      go : (h : Answer Head) → In h → (r : Reading) → Reads r → In (place_by h r)
+      go : (h : Answer Head) → NamedAnswer h → (r : Reading) → NamedReading r → NamedAnswer (place_by h r)
       go h l (refused_before n q) (before r) = refuses r
       go h l (refused_at_field w b p) r = refuses (on Reason.FieldPastLength _)
       go (refused n q) (refuses l) (read fs e frame) r = refuses l
       go (given h) l (read fs e frame) r = gives
 
-  answer-meets : (edition : ℕ) (s : List ℕ) (place : Answer Cursor) → In place → Meets (answer_at rules edition s place)
+  answer-named : (edition : ℕ) (s : List ℕ) (place : Answer Cursor) → NamedAnswer place → NamedMet (answer_at rules edition s place)
   unfolding answer_at
-  answer-meets edition s place l = asked-meets edition (λ taken. answer_taken rules taken s place) (λ taken. go taken place l)
+  answer-named edition s place l = asked-named edition (λ taken. answer_taken rules taken s place) (λ taken. go taken place l)
     where
-      go : (taken : ℕ) (place : Answer Cursor) → In place → Meets (answer_taken rules taken s place)
+      go : (taken : ℕ) (place : Answer Cursor) → NamedAnswer place → NamedMet (answer_taken rules taken s place)
       go taken (refused n q) (refuses l) = refuses_step l
-      go taken (given c) l = step-meets taken s c
+      go taken (given c) l = step-named taken s c
 
-  moved-in : (edition : ℕ) (s : List ℕ) (place : Answer Cursor) → In place → In (moved_on rules edition s place)
+  moved-named : (edition : ℕ) (s : List ℕ) (place : Answer Cursor) → NamedAnswer place → NamedAnswer (moved_on rules edition s place)
   unfolding moved_on
-  moved-in edition s place l = go (answer_at rules edition s place)
+  moved-named edition s place l = go (answer_at rules edition s place)
     where
-      go : (m : Met) → In (moved_by place m)
+      go : (m : Met) → NamedAnswer (moved_by place m)
       go (refused_step n q) = l
       go (over e) = l
       go (met f c) = gives
 
-  times-in : (edition : ℕ) (s : List ℕ) (moves : ℕ) (place : Answer Cursor) → In place → In (moved_times rules edition s moves place)
-  times-in edition s zero place l = l
-  times-in edition s (suc moves) place l = times-in edition s moves (moved_on rules edition s place) (moved-in edition s place l)
+  times-named : (edition : ℕ) (s : List ℕ) (moves : ℕ) (place : Answer Cursor) → NamedAnswer place → NamedAnswer (moved_times rules edition s moves place)
+  times-named edition s zero place l = l
+  times-named edition s (suc moves) place l = times-named edition s moves (moved_on rules edition s place) (moved-named edition s place l)
 
   pub places_named : (edition : ℕ) (s : List ℕ) → PlacesNamed rules edition s
   places_named edition s =
       record {
-        fresh = λ n q. told (fresh-in edition s);
-        answered = λ place l n q. meets_told (answer-meets edition s place (in_place l));
-        moved = λ place l n q. told (moved-in edition s place (in_place l));
+        fresh = λ n q. told (fresh-named edition s);
+        answered = λ place l n q. meets_told (answer-named edition s place (answer_of_place l));
+        moved = λ place l n q. told (moved-named edition s place (answer_of_place l));
         after = λ moves n q.
-            meets_told (answer-meets edition s (moved_times rules edition s moves (fresh_place rules edition s)) (times-in edition s moves (fresh_place rules edition s) (fresh-in edition s)));
+            meets_told (answer-named edition s (moved_times rules edition s moves (fresh_place rules edition s)) (times-named edition s moves (fresh_place rules edition s) (fresh-named edition s)));
       }

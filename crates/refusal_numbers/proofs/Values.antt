@@ -17,27 +17,27 @@ use Rattle.le_rules.specs.Writing as LeWriting
 use Rattle.bredr_rules.specs.Reading as BrEdr
 use Rattle.refusal_numbers.specs.Named.{NamedNumber}
 use Rattle.refusal_numbers.specs.Claims.{ValuesNamed, PacketsNamed}
-use Rattle.refusal_numbers.proofs.In.{on, In, refuses, gives, either, told}
+use Rattle.refusal_numbers.proofs.NamedAnswer.{on, NamedAnswer, refuses, gives, either, told}
 
-reading-in : (field : ℤ) → In (reading field)
+reading-named : (field : ℤ) → NamedAnswer (reading field)
 unfolding reading
-reading-in field = either (below_range (unix_microseconds field)) (refuses (on Reason.Time _)) gives
+reading-named field = either (below_range (unix_microseconds field)) (refuses (on Reason.Time _)) gives
 
-writing-in : (seconds : ℤ) (microseconds : ℕ) → In (writing seconds microseconds)
+writing-named : (seconds : ℤ) (microseconds : ℕ) → NamedAnswer (writing seconds microseconds)
 unfolding writing
-writing-in seconds microseconds = either (unwritable seconds microseconds) (refuses (on Reason.Time _)) gives
+writing-named seconds microseconds = either (unwritable seconds microseconds) (refuses (on Reason.Time _)) gives
 
-updating-in : (t : Tally) (e : Entry) → In (updating t e)
+updating-named : (t : Tally) (e : Entry) → NamedAnswer (updating t e)
 unfolding updating
-updating-in t e =
+updating-named t e =
     either (adds_up t) (either (fits (added t e)) gives (refuses (on Reason.TallySum _))) (refuses (on Reason.TallyBroken _))
 
 pub values_named : ValuesNamed
 values_named =
     record {
-      reads = λ field n q. told (reading-in field);
-      writes = λ seconds microseconds n q. told (writing-in seconds microseconds);
-      updates = λ t e n q. told (updating-in t e);
+      reads = λ field n q. told (reading-named field);
+      writes = λ seconds microseconds n q. told (writing-named seconds microseconds);
+      updates = λ t e n q. told (updating-named t e);
     }
 
 -- ---- LE and BR/EDR pseudo-headers
@@ -47,30 +47,30 @@ faults Le.channel_above = on Reason.RfChannel _
 faults Le.pdu_type_reserved = on Reason.ReservedPduType _
 faults Le.phy_reserved = on Reason.ReservedPhy _
 
-le_judged-in : (packet : ℕ) (v : Values) (range : Le.Range) → In (Le.judged packet v range)
-le_judged-in packet v (Le.out_of fault) = refuses (faults fault)
-le_judged-in packet v Le.within = either (Le.packet_test v.flags packet) gives (refuses (on Reason.ShortPacket _))
+le_judged-named : (packet : ℕ) (v : Values) (range : Le.Range) → NamedAnswer (Le.judged packet v range)
+le_judged-named packet v (Le.out_of fault) = refuses (faults fault)
+le_judged-named packet v Le.within = either (Le.packet_test v.flags packet) gives (refuses (on Reason.ShortPacket _))
 
-le_reading-in : (s : List ℕ) → In (Le.reading_of s)
+le_reading-named : (s : List ℕ) → NamedAnswer (Le.reading_of s)
 unfolding Le.reading_of
-le_reading-in s =
+le_reading-named s =
     either (ltb (length s) Le.header_length) (refuses (on Reason.ShortHeader _))
-    (le_judged-in (length (drop Le.header_length s)) (Le.values_in s) (Le.range_of (Le.values_in s).channel (Le.values_in s).flags))
+    (le_judged-named (length (drop Le.header_length s)) (Le.values_in s) (Le.range_of (Le.values_in s).channel (Le.values_in s).flags))
 
-le_writing-in : (size at : ℕ) (v : Values) (packet : List ℕ) → In (LeWriting.writing size at v packet)
+le_writing-named : (size at : ℕ) (v : Values) (packet : List ℕ) → NamedAnswer (LeWriting.writing size at v packet)
 unfolding LeWriting.writing
-le_writing-in size at v packet = go (Le.range_of v.channel v.flags)
+le_writing-named size at v packet = go (Le.range_of v.channel v.flags)
   where
-    go : (range : Le.Range) → In (LeWriting.writing_judged size at v packet range)
+    go : (range : Le.Range) → NamedAnswer (LeWriting.writing_judged size at v packet range)
     go (Le.out_of fault) = refuses (faults fault)
     go Le.within =
         either (Le.packet_test v.flags (length packet))
         (either (has_room size at (Le.header_length + length packet)) gives (refuses (on Reason.NoRoom _)))
         (refuses (on Reason.ShortPacket _))
 
-bredr-in : (s : List ℕ) → In (BrEdr.reading_of s)
+bredr-named : (s : List ℕ) → NamedAnswer (BrEdr.reading_of s)
 unfolding BrEdr.reading_of
-bredr-in s =
+bredr-named s =
     either (ltb (length s) BrEdr.header_length) (refuses (on Reason.ShortHeader _))
     (either (BrEdr.channel_test (BrEdr.values_in s).rf_channel) gives (refuses (on Reason.RfChannel _)))
 
@@ -78,7 +78,7 @@ pub packets_named : PacketsNamed
 packets_named =
     record {
       faults = faults;
-      reads = λ s n q. told (le_reading-in s);
-      writes = λ size at v packet n q. told (le_writing-in size at v packet);
-      reads_bredr = λ s n q. told (bredr-in s);
+      reads = λ s n q. told (le_reading-named s);
+      writes = λ size at v packet n q. told (le_writing-named size at v packet);
+      reads_bredr = λ s n q. told (bredr-named s);
     }
